@@ -1,0 +1,22 @@
+//! The words that every crate shares: bytes, instances, rules, acts, items and outcomes, and the traits
+//! of what lies outside, with stand-ins for them in memory.
+#![tactic(auto)]
+
+mod act;
+mod bytes;
+mod fakes;
+mod names;
+mod outcome;
+mod outside;
+mod rule;
+
+pub use act::Act;
+pub use bytes::{Bytes, Memory};
+pub use fakes::{File, MemCabinet, MemSink};
+pub use names::{Dir, Endpoint, Handle, Heading, Instance, Local, Proto, Side, Verdict};
+pub use outcome::{Head, Item, Items, Outcome};
+pub use outside::{Cabinet, Failed, Sink};
+pub use rule::Rule;
+
+#[cfg(test)]
+mod tests;

@@ -1,0 +1,89 @@
+// What an act brings: a head, and items for the parties.
+ghost use Rattle.std.specs.Prelude.{◌≡◌, [], ◌∷◌, ◌++◌, OnOk, OnErr};
+
+use crate::{Bytes, Instance, Memory, Rule};
+use std::alloc::Global;
+use std::marker::Model;
+
+/// Whether the act was accepted, and else the rule that it broke.
+#[derive(Clone, Copy, Debug, PartialEq, Eq)]
+pub enum Head {
+    Ok,
+    Denied(Rule),
+}
+
+/// What a party is told.
+#[derive(Debug, PartialEq, Eq, Drop)]
+pub enum Item {
+    /// An instance was opened at this URL.
+    Opened { who: Instance, url: Bytes },
+    /// The cookies of an instance's origin, as `name=value` joined by `; `.
+    Cookies { who: Instance, text: Bytes },
+}
+
+/// Items in their order, which contracts see as the list of them.
+#[derive(Debug, Drop)]
+pub struct Items {
+    inner: Vec<Item>,
+}
+
+impl Model for Items {
+    ghost use Rattle.std.specs.Prelude.{List};
+    ghost use Rattle.ibos_kinds.specs.declared.outcome.Item.{Item};
+
+    ghost Value = { List Item };
+
+    ghost view = { λ it. it.inner.items };
+}
+
+impl Items {
+    /// The items, lent.
+    pub fn as_slice(&self) -> &[Item]
+        ensures { result.now ≡ self.now }
+    {
+        self.inner.as_slice()
+    }
+}
+
+/// The outcome of an act: a head for its actor, and the items in the order in which they are told.
+#[derive(Debug, Drop)]
+pub struct Outcome {
+    pub head: Head,
+    pub items: Items,
+}
+
+impl Outcome {
+    /// Accepted, with no items. Takes no memory.
+    pub fn new(alloc: Global) -> Outcome
+        ensures head { result.head ≡ Head.Ok }
+        ensures items { result.items ≡ [] }
+    {
+        Outcome {
+            head: Head::Ok,
+            items: Items {
+                inner: Vec::new(alloc),
+            },
+        }
+    }
+
+    /// Appends an item, or drops it where memory is wanting.
+    pub fn push(&mut self, item: Item) -> Result<(), Memory>
+        ensures head { self.new.head ≡ self.old.head }
+        ensures ok { OnOk result (self.new.items ≡ self.old.items ++ item ∷ []) }
+        ensures err { OnErr result (self.new.items ≡ self.old.items) }
+    {
+        match self.items.inner.push(item) {
+            Ok(()) => Ok(()),
+            Err(_) => Err(Memory),
+        }
+    }
+
+    /// Makes it as new.
+    pub fn clear(&mut self)
+        ensures head { self.new.head ≡ Head.Ok }
+        ensures items { self.new.items ≡ [] }
+    {
+        self.head = Head::Ok;
+        self.items.inner.clear();
+    }
+}
