@@ -19,7 +19,7 @@ use Rattle.ibos_model.specs.Rows.{accepted, denied, admitted, answer, open_row, 
 use Rattle.ibos_model.specs.Runs.{IsRun, run, run_from, entry_of}
 use Rattle.ibos_model.specs.Facts.{Own, OtherSet, when, facts, facts_at, change_facts, Suits}
 use Rattle.ibos_model.specs.Gives.{Mine, newborn, Delivery, Answer, told, told_at, own_row, own_after, life_after_go, gives, gives_from, mine_from, delivered}
-use Rattle.ibos_model.specs.Laws.{IsIsolated}
+use Rattle.ibos_model.specs.Laws.{IsIsolated, IsIsolatedIn, IsIsolatedOverTwo, IsCarriedAlways}
 use Rattle.ibos_model.proofs.Folds.{gives_from-append, mine_from-append, same-true, same-refl, bytes_eq-refl, and-true}
 use Rattle.ibos_model.proofs.Fresh.{suits_before, IsSound, tabs_sound, changes_allowed}
 use Rattle.ibos_model.proofs.Changes.{item_of, mine_in, mine_with, changes_told}
@@ -70,5 +70,21 @@ is_run_from : (H : HostTable) (J : Journal) (A : List Act) (W : List (List ℕ))
 is_run_from H J [] W is = is
 is_run_from H J (a ∷ A) W is = is_run_from H (entry_of H J W a ∷ J) A _ (refl, is)
 
+-- the law for the journal of a run
+pub isolated_in : (H : HostTable) (J : Journal) → IsRun H J → IsIsolatedIn H J
+isolated_in H J run p o suits = (isolated_run H p o J run suits).told
+
+pub is_run : (H : HostTable) (A : List Act) (W : List (List ℕ)) → IsRun H (run H A W)
+is_run H A W = is_run_from H [] A W tt
+
 pub isolated : IsIsolated
-isolated H A W p o suits = (isolated_run H p o (run H A W) (is_run_from H [] A W tt) suits).told
+isolated H A W p o suits = isolated_in H (run H A W) (is_run H A W) p o suits
+
+pub isolated_over_two : IsIsolatedOverTwo
+isolated_over_two H A B V W p o first second same =
+    isolated H A V p o first ∙ ap (gives H p o) same ∙ sym (isolated H B W p o second)
+
+pub carried : IsCarriedAlways
+carried H J e run p o suits =
+    sym (isolated_in H (e ∷ J) run p o suits)
+    ∙ ap (λ ds. ds ++ told_at p e) (isolated_in H J run.1 p o (suits_before H p o J e run suits))
