@@ -7,7 +7,7 @@ ghost use Rattle.ibos_origin.specs.Pages.{allowed, allowed_url, origin_text, hos
 ghost use Rattle.ibos_origin.specs.Pages as spec;
 
 use crate::hosts::Hosts;
-use ibos_kinds::{Bytes, Memory, Rule};
+use ibos_kinds::{Bytes, Endpoint, Memory, Rule};
 use std::alloc::{AllocError, Global};
 use std::marker::Model;
 use url::{ParseError, Url};
@@ -53,6 +53,24 @@ impl Page {
         ensures { result.now ≡ self.now.url }
     {
         self.url.as_slice()
+    }
+
+    /// The origin: scheme, `://`, host, and the port where it is not the scheme's default.
+    pub fn origin(&self) -> &[u8]
+        ensures { result.now ≡ self.now.origin }
+    {
+        self.origin.as_slice()
+    }
+
+    /// The host's address in the host table, and the URL's port or the scheme's default.
+    pub fn endpoint(&self) -> Endpoint
+        ensures addr { result.addr ≡ self.now.addr }
+        ensures port { result.port ≡ self.now.port }
+    {
+        Endpoint {
+            addr: self.addr,
+            port: self.port,
+        }
     }
 
     #[tactic(auto, unfolding(crate::specs::Pages::allowed))]
