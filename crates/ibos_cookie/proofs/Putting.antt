@@ -160,7 +160,7 @@ sets_there origin set (j ∷ jars) d other within = by_test (bytes_eq j.origin o
 
     by_test : (here : Bool) → bytes_eq j.origin origin ≡ here
         → (place_of origin jars < length jars → jar_of (slice_set jars (place_of origin jars) (record (get_or jars (place_of origin jars) d) { cookies = put set (get_or jars (place_of origin jars) d).cookies })) other
-            ≡ (if bytes_eq origin other then put set (jar_of jars other) else jar_of jars other))
+        ≡ (if bytes_eq origin other then put set (jar_of jars other) else jar_of jars other))
         → jar_of (slice_set (j ∷ jars) (place_of origin (j ∷ jars)) (record (get_or (j ∷ jars) (place_of origin (j ∷ jars)) d) { cookies = put set (get_or (j ∷ jars) (place_of origin (j ∷ jars)) d).cookies })) other
         ≡ (if bytes_eq origin other then put set (jar_of (j ∷ jars) other) else jar_of (j ∷ jars) other)
     by_test true is rest = rw is (at_head (bytes_eq origin other) refl (same_names j.origin origin is))

@@ -10,6 +10,7 @@ use std::alloc::Global;
 use std::marker::Model;
 
 const COOKIES: usize = 20;
+
 const BYTES: usize = 4096;
 
 /// Why a set is refused.

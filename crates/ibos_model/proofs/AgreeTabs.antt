@@ -132,7 +132,6 @@ own_go H p o t url sets (Some page) false sound is is_gone suits =
       mine = own_go_alive_mine p o t sets page (allowed H url) is is_gone origin differs;
     }
 
-
 pub go_agrees : (H : HostTable) (p : Instance) (o : List ℕ) (J : Journal) (who : Instance) (url w : List ℕ) → IsSound (tabs H J) → Suits H p o J
     → (own : Bool) → same who p ≡ own → Agrees H p o J (entry H J (Go who url) w)
 unfolding tabs sets_of

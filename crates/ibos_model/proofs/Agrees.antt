@@ -39,11 +39,9 @@ pub record Agrees (H : HostTable) (p : Instance) (o : List ℕ) (J : Journal) (e
 abbrev pub entry : HostTable → Journal → Act → List ℕ → Entry
 entry H J a w = record { act = a; outcome = out H J a; written = w }
 
-
 -- what an own act tells its instance
 abbrev pub answers : Instance → Outcome → List Delivery
 answers p outcome = Answer outcome.head ∷ told p outcome.items
-
 
 -- the origin matters only where the instance is there
 pub admit_same : (o : List ℕ) (row : List ℕ → Outcome) (page : Option Page) (gone : Bool) → (life_with page gone ≢ Unborn → origin_with page ≡ o)

@@ -1,5 +1,5 @@
 // Tabs and their instances.
-ghost use Rattle.std.specs.Prelude.{◌≡◌, ◌<◌, ◌↔◌, ℕ, Some, None, Ok, Err, IfOk, OnOk, OnErr, IsOk, IsNone, is_some, ok_or, IfSome, bytes_eq, if◌then◌else◌};
+ghost use Rattle.std.specs.Prelude.{◌≡◌, ◌<◌, ◌↔◌, ℕ, length, Some, None, Ok, Err, IfOk, OnOk, OnErr, IsOk, IsNone, is_some, ok_or, IfSome, bytes_eq, if◌then◌else◌};
 ghost use Rattle.ibos_page.specs.Tabs.{origin_with};
 ghost use Rattle.ibos_page.specs.Tabs as spec;
 
@@ -9,6 +9,7 @@ use std::alloc::Global;
 use std::marker::Model;
 
 const TABS: usize = 64;
+
 const INSTANCES: u8 = 32;
 
 // What stands in a tab: how many instances it has had, and the page of the live one.
@@ -51,6 +52,7 @@ impl Tabs {
     /// No tab has had an instance, and none is active. All the room is reserved here.
     pub fn new(alloc: Global) -> Result<Tabs, Memory>
         ensures seats { IfOk result (λ tabs. (tab : ℕ) → seat_at tabs tab ≡ empty_seat) }
+        ensures room { IfOk result (λ tabs. length tabs.seats ≡ 64) }
         ensures active { IfOk result (λ tabs. tabs.active ≡ None) }
     {
         let mut seats = Vec::with_capacity(alloc, TABS)?;

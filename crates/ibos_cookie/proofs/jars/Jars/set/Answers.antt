@@ -12,4 +12,4 @@ invariant_of-self-in-None c =
     let read : set ≡ cookie_in c.args.text.now = cc in
     let none : None ≡ set_breaks c.args.text.now (jar_of jars c.args.origin.now) = c.in-None.ensures ∙ ap (set_breaks c.args.text.now) (c.cookies_of.ensures ∙ ap (λ (js : List OriginJar). jar_of js c.args.origin.now) c.deref.ensures.value) in
     sets_within jars c.put_in.new.jars.items c.args.origin.now set c.self.invariant c.in_ok-put_in-in-None.ensures.ok
-        (rw read (fits_after c.args.text.now (jar_of jars c.args.origin.now) none))
+    (rw read (fits_after c.args.text.now (jar_of jars c.args.origin.now) none))
