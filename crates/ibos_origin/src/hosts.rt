@@ -2,21 +2,15 @@
 ghost use Rattle.std.specs.Prelude.{◌≡◌};
 ghost use Rattle.ibos_origin.specs.Hosts.{address_of};
 
-use ibos_kinds::{Bytes, Local};
+use crate::index::HostIndex;
+use ibos_kinds::Local;
 use std::marker::Model;
-
-/// A host's name and its IPv4 address.
-#[derive(Debug, Drop)]
-pub struct Host {
-    pub name: Bytes,
-    pub addr: u32,
-}
 
 /// The host table of a run: this machine's addresses, and the hosts that pages may name.
 #[derive(Debug, Drop)]
 pub struct Hosts {
     local: Local,
-    hosts: Vec<Host>,
+    hosts: HostIndex,
 }
 
 impl Model for Hosts {
@@ -24,7 +18,7 @@ impl Model for Hosts {
 
     ghost Value = { HostTable };
 
-    ghost view = { λ h. record { local = h.local; hosts = h.hosts.items } };
+    ghost view = { λ h. record { local = h.local; hosts = h.hosts } };
 }
 
 impl Hosts {
@@ -39,15 +33,6 @@ impl Hosts {
     pub fn address(&self, host: &[u8]) -> Option<u32>
         ensures { result ≡ address_of self.now.hosts host.now }
     {
-        address_in(&self.hosts, host)
+        self.hosts.address(host)
     }
-}
-
-fn address_in(hosts: &[Host], name: &[u8]) -> Option<u32>
-    ensures { result ≡ address_of hosts.now name.now }
-{
-    hosts
-        .iter()
-        .find(|host| host.name.as_slice() == name)
-        .map(|host| host.addr)
 }
