@@ -1,3 +1,5 @@
 mod Pieces
 mod Named
 mod Cuts
+mod Macs
+mod Dotted
