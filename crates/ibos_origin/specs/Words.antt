@@ -19,3 +19,8 @@ parts_left byte (Some text) = parts_of byte text
 abbrev pub after_spaces : List ℕ → List ℕ
 after_spaces [] = []
 after_spaces (b ∷ line) = if b == 32 then after_spaces line else b ∷ line
+
+-- the word, if there is one word
+abbrev pub only_word : List (List ℕ) → Option (List ℕ)
+only_word (word ∷ []) = Some word
+only_word words = None
