@@ -3,3 +3,4 @@ mod Named
 mod Cuts
 mod Macs
 mod Dotted
+mod Tabled

@@ -3,5 +3,5 @@ use Rattle.std.specs.Prelude.{ℕ, List, map}
 use Rattle.std.specs.Global.{Vec}
 use Rattle.ibos_origin.specs.Hosts.{Host}
 
-abbrev pub hosts_in : List (Vec ℕ × ℕ) → List Host
-hosts_in entries = map (λ entry. record { name = entry.0.items; addr = entry.1 }) entries
+abbrev pub named_hosts : List (Vec ℕ × ℕ) → List Host
+named_hosts entries = map (λ entry. record { name = entry.0.items; addr = entry.1 }) entries

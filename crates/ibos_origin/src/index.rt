@@ -20,9 +20,9 @@ impl Model for HostIndex {
 
     ghost Value = { List Host };
 
-    ghost use Rattle.ibos_origin.specs.Index.{hosts_in};
+    ghost use Rattle.ibos_origin.specs.Index.{named_hosts};
 
-    ghost view = { λ index. hosts_in index.addrs.entries };
+    ghost view = { λ index. named_hosts index.addrs.entries };
 }
 
 impl HostIndex {
