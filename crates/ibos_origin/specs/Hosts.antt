@@ -1,7 +1,10 @@
 -- The host table: this machine's addresses, and the hosts with theirs.
 use Rattle.std.specs.Prelude.{ℕ, List, Option, option_map, find, bytes_eq}
 use Rattle.ibos_kinds.specs.declared.names.Local.{Local}
-use Rattle.ibos_origin.specs.declared.hosts.Host.{Host}
+
+pub record Host : Type 0 where
+  pub name : List ℕ
+  pub addr : ℕ
 
 pub record HostTable : Type 0 where
   pub local : Local
@@ -11,3 +14,6 @@ pub record HostTable : Type 0 where
 -- the address of the first line of that name
 abbrev pub address_of : List Host → List ℕ → Option ℕ
 address_of hosts name = option_map (λ host. host.addr) (find (λ host. bytes_eq host.name name) hosts)
+
+abbrev pub host_of : List ℕ → ℕ → Host
+host_of name addr = record { name = name; addr = addr }

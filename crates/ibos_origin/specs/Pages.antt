@@ -7,6 +7,7 @@ use Rattle.url.specs.Parts.{Parts, serialize, has_credentials, nonempty_host}
 use Rattle.url.specs.Host.{host_text}
 use Rattle.url.specs.Scheme.{default_port}
 use Rattle.url.specs.Origin.{is_http, origin_of, ascii_serialization}
+use Rattle.ibos_kinds.specs.declared.names.Endpoint.{Endpoint}
 use Rattle.ibos_kinds.specs.declared.rule.Rule.{Rule}
 use Rattle.ibos_kinds.specs.declared.rule.Rule.TheVariants.{U4, U5, U6, U7, U8, U9}
 use Rattle.ibos_origin.specs.Hosts.{HostTable, address_of}
@@ -17,6 +18,10 @@ pub record Page : Type 0 where
   pub origin : List ℕ
   pub addr : ℕ
   pub port : ℕ
+
+-- where the page's host is
+abbrev pub endpoint_of : Page → Endpoint
+endpoint_of page = record { addr = page.addr; port = page.port }
 
 -- scheme, host, and the port where it isn't the scheme's default
 unfoldable pub origin_text : Parts → List ℕ

@@ -3,19 +3,22 @@ ghost use Rattle.std.specs.Prelude.{◌≡◌, Ok, Err, true, false, IfOk, Match
 ghost use Rattle.std.specs.Str.{is_utf8};
 ghost use Rattle.url.specs.Parts.{Parts, has_credentials};
 ghost use Rattle.url.specs.Origin.{is_http};
-ghost use Rattle.ibos_origin.specs.Pages.{allowed, allowed_url, origin_text, host_of};
+ghost use Rattle.ibos_origin.specs.Pages.{allowed, allowed_url, origin_text, host_of, endpoint_of};
 ghost use Rattle.ibos_origin.specs.Pages as spec;
 
 use crate::hosts::Hosts;
 use ibos_kinds::{Bytes, Endpoint, Memory, Rule};
 use std::alloc::{AllocError, Global};
 use std::marker::Model;
+use thiserror::Error;
 use url::{ParseError, Url};
 
-/// Why a text is no page.
-#[derive(Clone, Copy, Debug, PartialEq, Eq)]
+/// Why a text is no page: the first rule that it breaks, or want of memory.
+#[derive(Clone, Copy, Debug, PartialEq, Eq, Error)]
 pub enum UrlFault {
+    #[error("denied {} {}", .0.code(), .0.name())]
     Denied(Rule),
+    #[error("out of memory")]
     Memory,
 }
 
@@ -28,6 +31,11 @@ impl From<Memory> for UrlFault {
         UrlFault::Memory
     }
 }
+
+// The most bytes of a serialized URL, and of an origin.
+const LONGEST_URL: usize = 1024;
+
+const LONGEST_ORIGIN: usize = 72;
 
 /// An allowed URL, its origin and where it leads.
 #[derive(Debug, Drop)]
@@ -49,23 +57,24 @@ impl Model for Page {
 impl Page {
     ghost use Rattle.ibos_origin.specs.Faults.{Gives};
 
+    /// The serialized URL (URL Standard, section 4.5).
     pub fn url(&self) -> &[u8]
         ensures { result.now ≡ self.now.url }
     {
         self.url.as_slice()
     }
 
-    /// The origin: scheme, `://`, host, and the port where it is not the scheme's default.
+    /// The origin's text (RFC 6454, section 6.2): the scheme, `://`, the host, and `:` with the port where
+    /// it isn't the scheme's default. Two pages have one origin exactly where these texts are equal.
     pub fn origin(&self) -> &[u8]
         ensures { result.now ≡ self.now.origin }
     {
         self.origin.as_slice()
     }
 
-    /// The host's address in the host table, and the URL's port or the scheme's default.
+    /// Where the page's host is: its address in the host table, and the URL's port or the scheme's default.
     pub fn endpoint(&self) -> Endpoint
-        ensures addr { result.addr ≡ self.now.addr }
-        ensures port { result.port ≡ self.now.port }
+        ensures { result ≡ endpoint_of self.now }
     {
         Endpoint {
             addr: self.addr,
@@ -73,8 +82,11 @@ impl Page {
         }
     }
 
+    /// The page of a text, or the first rule that it breaks. The text is read by the URL Standard. U4: it
+    /// isn't UTF-8 or no URL. U5: its scheme is neither http nor https. U6: it has a user name or a
+    /// password. U7: its serialized URL has more than 1,024 bytes. U8: its origin has more than 72 bytes. U9:
+    /// its host isn't in the host table.
     #[tactic(auto, unfolding(crate::specs::Pages::allowed))]
-    /// The page of a text, or the first rule that it breaks.
     pub fn read(alloc: Global, hosts: &Hosts, text: &[u8]) -> Result<Page, UrlFault>
         ensures { Gives result (allowed hosts.now text.now) }
     {
@@ -98,11 +110,11 @@ impl Page {
         if has_user(url) {
             return Err(UrlFault::Denied(Rule::U6));
         }
-        if url.as_str().len() > 1024 {
+        if url.as_str().len() > LONGEST_URL {
             return Err(UrlFault::Denied(Rule::U7));
         }
         let origin = origin_bytes(alloc, url)?;
-        if origin.len() > 72 {
+        if origin.len() > LONGEST_ORIGIN {
             return Err(UrlFault::Denied(Rule::U8));
         }
         match address_at(hosts, url) {
