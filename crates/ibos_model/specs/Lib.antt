@@ -7,3 +7,5 @@ pub mod Runs
 pub mod Facts
 pub mod Gives
 pub mod Laws
+pub mod Text
+pub mod Inputs

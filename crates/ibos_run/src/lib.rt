@@ -1,0 +1,12 @@
+//! The top call: from the words of a command line, a host table and a script to the printed text.
+#![tactic(auto)]
+
+mod fault;
+mod gather;
+mod texts;
+mod transfer;
+
+pub use fault::Status;
+
+#[cfg(test)]
+mod tests;
