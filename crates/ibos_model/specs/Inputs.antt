@@ -53,11 +53,14 @@ onto_acts act reading = record { acts = act ∷ reading.acts; refused = reading.
 abbrev pub refused_by : Refusal → Reading
 refused_by refusal = record { acts = []; refused = Some refusal }
 
+abbrev pub line_refusal : ℕ → LineFault → Refusal
+line_refusal line fault = record { line = line; number = number_of fault; name = name_of fault }
+
 -- what is read from a line on, where that is what the lines behind it give
 abbrev pub reading_by : ℕ → Result (Option Line) LineFault → Reading → Reading
 reading_by number (Ok None) reading = reading
 reading_by number (Ok (Some (ActLine act))) reading = onto_acts act reading
-reading_by number (Err fault) reading = refused_by (record { line = number; number = number_of fault; name = name_of fault })
+reading_by number (Err fault) reading = refused_by (line_refusal number fault)
 
 -- the line holds the byte after the limit
 unfoldable pub too_long : ℕ → Refusal

@@ -3,6 +3,7 @@
 
 mod fault;
 mod gather;
+mod script;
 mod texts;
 mod transfer;
 
