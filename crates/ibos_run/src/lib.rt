@@ -4,6 +4,7 @@
 mod fault;
 mod gather;
 mod script;
+mod serving;
 mod texts;
 mod transfer;
 

@@ -31,6 +31,7 @@ pub enum Next {
 }
 
 /// What is left of a script.
+#[derive(Drop)]
 pub struct Script<'a> {
     rest: &'a [u8],
     lines: u32,
