@@ -35,7 +35,9 @@ use Rattle.ibos_model.specs.Journal.{Entry}
 use Rattle.ibos_model.specs.Jars.{sets_by}
 use Rattle.ibos_model.specs.Tabs.{changed_by, changes, opening, leave, end, if_ok}
 use Rattle.ibos_model.specs.Rows.{open_row, leave_row}
+use Rattle.ibos_model.specs.Laws.{IsCarried}
 use Rattle.ibos_model.proofs.JarSteps.{jar-set}
+use Rattle.ibos_model.proofs.Isolated.{carried}
 use Rattle.ibos_kernel.proofs.Shown.{seat-with}
 use Rattle.ibos_kernel.proofs.Rows.{row_seen, row-seen, row_stands, lives_if}
 
@@ -236,3 +238,17 @@ step_stands J t act outcome tabs jars acts usable stands fits serves counted =
 -- the outcome is the journal's
 pub step_told : (J : Journal) (t : Tables) (act : Act) (outcome : Outcome) (tabs : TabTable) (jars : List OriginJar) → Stands J t → Serves t act outcome tabs jars → outcome ≡ out t.hosts J act
 step_told J t act outcome tabs jars stands serves = serves.told ∙ row-seen J t act stands ∙ row_stands J t act stands
+
+-- the same, as the code says it: what was served, and the count of acts one higher
+pub step_kept : (J : Journal) (t served inside : Tables) (act : Act) (outcome : Outcome) → inside ≡ served → served.hosts ≡ t.hosts → served.acts ≡ t.acts
+    → Stands J t → Fits act → Serves t act outcome served.tabs served.jars → Stands (entry act outcome ∷ J) (record inside { acts = inside.acts + 1 })
+step_kept J t served inside act outcome is hosts acts stands fits serves =
+    let made = step_stands J t act outcome served.tabs served.jars (served.acts + 1) served.usable stands fits serves (ap (λ n. n + 1) acts) in
+    let P : HostTable → Type 0 = λ H. Stands (entry act outcome ∷ J) (record { hosts = H; tabs = served.tabs; jars = served.jars; acts = served.acts + 1; usable = served.usable }) in
+    let Q : Tables → Type 0 = λ x. Stands (entry act outcome ∷ J) (record x { acts = x.acts + 1 }) in
+    subst Q (sym is) (subst P (sym hosts) made)
+
+-- what the act tells each instance is what its facts give
+pub step_carried : (J : Journal) (t : Tables) (act : Act) (outcome : Outcome) (tabs : TabTable) (jars : List OriginJar) → Stands J t → Serves t act outcome tabs jars
+    → IsCarried t.hosts J (entry act outcome)
+step_carried J t act outcome tabs jars stands serves = carried t.hosts J (entry act outcome) (step_told J t act outcome tabs jars stands serves, stands.run)
