@@ -1,0 +1,5 @@
+pub mod Numbers
+pub mod Rules
+pub mod Reading
+pub mod Joined
+pub mod Spelled
