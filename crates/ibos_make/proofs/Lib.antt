@@ -3,3 +3,5 @@ pub mod Rules
 pub mod Reading
 pub mod Joined
 pub mod Spelled
+pub mod Checksums
+pub mod Built
