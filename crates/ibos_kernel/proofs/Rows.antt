@@ -121,13 +121,13 @@ row_stands J t (Switch tab) stands = rw (stands.shown.live tab) refl
 row_stands J t (Close tab) stands = rw (stands.shown.live tab) refl
 row_stands J t (Go who url) stands =
     let_in_same t.tabs who (go_row who (origin_at t.tabs who) (next_at t.tabs who.tab) (allowed t.hosts url)) (go_row who (origin_of t.hosts J who) (next_in (tabs t.hosts J) who.tab) (allowed t.hosts url))
-        (λ lives. rw (stands.shown.origin who lives, stands.shown.count who.tab) refl)
+    (λ lives. rw (stands.shown.origin who lives, stands.shown.count who.tab) refl)
     ∙ sym (let_in_by (tabs t.hosts J) t.tabs who (go_row who (origin_of t.hosts J who) (next_in (tabs t.hosts J) who.tab) (allowed t.hosts url)) stands.shown)
 row_stands J t (CookieSet side who text) stands =
     let_in_same t.tabs who (answer (set_breaks text (jar_of t.jars (origin_at t.tabs who)))) (set_row text (sets_of t.hosts J (origin_of t.hosts J who)))
-        (λ lives. rw (stands.shown.origin who lives) (ap (λ cookies. answer (set_breaks text cookies)) (stands.jars (origin_at t.tabs who))))
+    (λ lives. rw (stands.shown.origin who lives) (ap (λ cookies. answer (set_breaks text cookies)) (stands.jars (origin_at t.tabs who))))
     ∙ sym (let_in_by (tabs t.hosts J) t.tabs who (set_row text (sets_of t.hosts J (origin_of t.hosts J who))) stands.shown)
 row_stands J t (CookieGet side who) stands =
     let_in_same t.tabs who (get_at t.jars (origin_at t.tabs who) who) (get_row who (sets_of t.hosts J (origin_of t.hosts J who)))
-        (λ lives. rw (stands.shown.origin who lives) (ap (λ (cookies : List Cookie). accepted (Cookies who (jar_text cookies) ∷ [])) (stands.jars (origin_at t.tabs who))))
+    (λ lives. rw (stands.shown.origin who lives) (ap (λ (cookies : List Cookie). accepted (Cookies who (jar_text cookies) ∷ [])) (stands.jars (origin_at t.tabs who))))
     ∙ sym (let_in_by (tabs t.hosts J) t.tabs who (get_row who (sets_of t.hosts J (origin_of t.hosts J who))) stands.shown)

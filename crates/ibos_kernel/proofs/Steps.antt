@@ -53,7 +53,6 @@ new_stands H t jars room empty none no_jars = record {
   acts = refl;
 }
 
-
 -- which tab is active shows in no other view
 with_active : (T : Tabs) (t : TabTable) (active : Option ℕ) → Shows T t → Shows T (record t { active = active })
 with_active T t active shows = record {
@@ -114,7 +113,7 @@ leaves_shown T t who page shows within lives =
     let both = opens_shown (changed T (Ends who)) (with_seat t who.tab (closed (seat_at t who.tab))) who.tab page ended within (ap (λ (s : Seat). s.page) seat) in
     let P : TabTable → Type 0 = Shows (changed (changed T (Ends who)) (Opens (next_in T who.tab) page)) in
     subst P (ap (λ (s : Seat). with_seat (with_seat t who.tab (closed (seat_at t who.tab))) who.tab (opened page s)) seat
-        ∙ ap (λ seats. record { seats = seats; active = t.active }) (set-set t.seats who.tab (closed (seat_at t who.tab)) (opened page (seat_at t who.tab)))) both
+    ∙ ap (λ seats. record { seats = seats; active = t.active }) (set-set t.seats who.tab (closed (seat_at t who.tab)) (opened page (seat_at t who.tab)))) both
   where
     here : (if who.tab == who.tab then closed (seat_at t who.tab) else seat_at t who.tab) ≡ closed (seat_at t who.tab)
     here = grind (arith, nat_tests)

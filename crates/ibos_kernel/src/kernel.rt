@@ -113,7 +113,14 @@ impl Kernel {
         }
         match act {
             Act::Start { tab, url } => {
-                start(&mut self.tabs, &self.hosts, alloc, *tab, url.as_slice(), out)?;
+                start(
+                    &mut self.tabs,
+                    &self.hosts,
+                    alloc,
+                    *tab,
+                    url.as_slice(),
+                    out,
+                )?;
                 Ok(())
             }
             Act::Switch { tab } => {
@@ -125,7 +132,14 @@ impl Kernel {
                 Ok(())
             }
             Act::Go { who, url } => {
-                go(&mut self.tabs, &self.hosts, alloc, *who, url.as_slice(), out)?;
+                go(
+                    &mut self.tabs,
+                    &self.hosts,
+                    alloc,
+                    *who,
+                    url.as_slice(),
+                    out,
+                )?;
                 Ok(())
             }
             Act::CookieSet { who, text, .. } => {
