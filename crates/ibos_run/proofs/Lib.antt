@@ -1,3 +1,4 @@
 pub mod Taking
 pub mod Few
 pub mod Readings
+pub mod Served
