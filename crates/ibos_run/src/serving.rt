@@ -37,8 +37,31 @@ pub fn serve<K: Sink>(
     ensures cause { IfErr result (λ fault. IsCaused fault ⊥ (Rose (K.faults sink.old) (K.faults sink.new))) }
 {
     let mut kernel = Kernel::new(alloc, hosts)?;
+    let status = serve_script(alloc, &mut kernel, script, text, sink);
+    drop(kernel);
+    status
+}
+
+// The same, by a kernel that has made no act.
+fn serve_script<K: Sink>(
+    alloc: Global,
+    kernel: &mut Kernel,
+    script: &[u8],
+    text: &mut Bytes,
+    sink: &mut K,
+) -> Result<Status, Fault>
+    requires within { length script.now ≤ LIMIT + 1 }
+    requires stands { Stands [] kernel.old }
+    requires usable { kernel.old.usable ≡ true }
+    requires acts { kernel.old.acts ≡ 0 }
+    requires empty { text.old ≡ [] }
+    ensures status { IfOk result (λ status. status ≡ ending (reading_of script.now).refused) }
+    ensures taken { IfOk result (λ _. K.taken sink.new ≡ taken_after (K.taken sink.old) (session_text kernel.old.hosts (reading_of script.now))) }
+    ensures later { K.faults sink.old ≤ K.faults sink.new }
+    ensures cause { IfErr result (λ fault. IsCaused fault ⊥ (Rose (K.faults sink.old) (K.faults sink.new))) }
+{
     let mut script = Script::new(script);
-    let end = serve_acts(alloc, &mut kernel, &mut script, text, sink)?;
+    let end = serve_acts(alloc, kernel, &mut script, text, sink)?;
     let status = push_last(alloc, kernel.acts(), end, text)?;
     hand_over(text, sink)?;
     Ok(status)
@@ -66,7 +89,7 @@ fn serve_acts<K: Sink>(
     let mut outcome = Outcome::new(alloc);
     'acts: loop {
         match script.next(alloc)? {
-            Next::Act(act) => serve_act(alloc, kernel, &act, &mut outcome, text, sink)?,
+            Next::Act(act) => serve_act(alloc, kernel, act, &mut outcome, text, sink)?,
             Next::End(end) => return Ok(end),
         }
     }
@@ -76,30 +99,33 @@ fn serve_acts<K: Sink>(
 fn serve_act<K: Sink>(
     alloc: Global,
     kernel: &mut Kernel,
-    act: &Act,
+    act: Act,
     outcome: &mut Outcome,
     text: &mut Bytes,
     sink: &mut K,
 ) -> Result<(), Fault>
     requires usable { kernel.old.usable ≡ true }
     requires acts { kernel.old.acts < 2 ^ 31 }
-    requires fits { Fits act.now }
-    ensures stands { OnOk result ((J : Journal) → Stands J kernel.old → Stands (entry act.now (out kernel.old.hosts J act.now) ∷ J) kernel.new) }
+    requires fits { Fits act }
+    ensures stands { OnOk result ((J : Journal) → Stands J kernel.old → Stands (entry act (out kernel.old.hosts J act) ∷ J) kernel.new) }
     ensures taken { OnOk result ((J : Journal) → Stands J kernel.old →
-        taken_after (K.taken sink.new) text.new ≡ taken_after (K.taken sink.old) (text.old ++ outcome_text (length J + 1) (out kernel.old.hosts J act.now))) }
+        taken_after (K.taken sink.new) text.new ≡ taken_after (K.taken sink.old) (text.old ++ outcome_text (length J + 1) (out kernel.old.hosts J act))) }
     ensures hosts { kernel.new.hosts ≡ kernel.old.hosts }
     ensures usable { OnOk result (kernel.new.usable ≡ true) }
     ensures acts { OnOk result (kernel.new.acts ≡ kernel.old.acts + 1) }
     ensures later { K.faults sink.old ≤ K.faults sink.new }
     ensures cause { IfErr result (λ fault. IsCaused fault ⊥ (Rose (K.faults sink.old) (K.faults sink.new))) }
 {
-    kernel.step(alloc, act, outcome)?;
+    let stepped = kernel.step(alloc, &act, outcome);
+    drop(act);
+    stepped?;
     write_outcome(alloc, u64::from(kernel.acts()), outcome, text)?;
     hand_over_if_full(text, sink)?;
     Ok(())
 }
 
 // Gathers the last line, after so many acts.
+#[tactic(auto, unfolding(ibos_model::specs::Inputs::too_long))]
 fn push_last(alloc: Global, acts: u32, end: End, text: &mut Bytes) -> Result<Status, Memory>
     requires { IsOfScript end }
     ensures status { IfOk result (λ status. status ≡ ending (refusal_of end)) }
