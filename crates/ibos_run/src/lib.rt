@@ -3,12 +3,14 @@
 
 mod fault;
 mod gather;
+mod run_words;
 mod script;
 mod serving;
 mod texts;
 mod transfer;
 
 pub use fault::Status;
+pub use run_words::run;
 
 #[cfg(test)]
 mod tests;
