@@ -1,0 +1,4 @@
+pub mod Places
+pub mod Memory
+pub mod Names
+pub mod Lending

@@ -1,0 +1,58 @@
+-- Names of buffers, and what a pool keeps of them.
+use Rattle.std.specs.Prelude.{◌≡◌, ℕ, ◌<◌, ◌==◌, ◌&&◌, List, [], Bool, false, length, slice_index_or, IsTrue}
+use Rattle.ibos_pool.specs.declared.name.Name.{Name}
+use Rattle.ibos_pool.specs.declared.place.Place.{Place}
+use Rattle.ibos_pool.specs.Places.{IsPlaceIn, buffers_of}
+
+pub record Entry : Type 0 where
+  pub place : Place
+  pub taken : Bool
+
+-- a buffer that someone holds: its name, and the place that the name had when it was taken
+pub record Held : Type 0 where
+  pub name : Name
+  pub place : Place
+
+-- the entries of each area's names, in the order of their indexes
+abbrev pub Names : Type 0
+Names = List (List Entry)
+
+abbrev pub no_entry : Entry
+no_entry = record { place = record { area = 0; index = 0 }; taken = false }
+
+abbrev pub entry_of : Names → Name → Entry
+entry_of names name = slice_index_or (slice_index_or names name.area []) name.index no_entry
+
+-- the place that a name has
+unfoldable pub place_of : Names → Name → Place
+place_of names name = (entry_of names name).place
+
+-- is a name taken
+unfoldable pub is_taken : Names → Name → Bool
+is_taken names name = (entry_of names name).taken
+
+-- that many areas have a buffer of this name
+pub record IsNameIn (areas : ℕ) (name : Name) : Type 0 where
+  pub area : name.area < areas
+  pub index : name.index < buffers_of name.area
+
+-- the place at which a name begins
+abbrev pub home_of : Name → Place
+home_of name = record { area = name.area; index = name.index }
+
+abbrev pub same_name : Name → Name → Bool
+same_name a b = a.area == b.area && a.index == b.index
+
+-- each name has one place, and each place has one name
+pub record IsOneToOne (names : Names) : Type 0 where
+  pub within : (name : Name) → IsNameIn (length names) name → IsPlaceIn (length names) (place_of names name)
+  pub apart : (one other : Name) → IsNameIn (length names) one → IsNameIn (length names) other
+      → place_of names one ≡ place_of names other → one ≡ other
+  pub named : (place : Place) → IsPlaceIn (length names) place
+      → (name : Name) × IsNameIn (length names) name × (place_of names name ≡ place)
+
+-- the pool's buffer of that name, which is taken
+pub record IsLoanOf (names : Names) (held : Held) : Type 0 where
+  pub name : IsNameIn (length names) held.name
+  pub taken : IsTrue (is_taken names held.name)
+  pub place : place_of names held.name ≡ held.place
