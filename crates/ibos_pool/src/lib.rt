@@ -15,7 +15,9 @@ mod limits;
 mod loan;
 mod mem;
 mod name;
+mod names;
 mod place;
+mod pool;
 
 pub use limits::{
     BUFFER_BYTES, DESCRIPTOR_BYTES, INSTANCE_BUFFERS, MOST_AREAS, RECEIVE_BUFFERS, RING_BYTES,
@@ -24,3 +26,4 @@ pub use limits::{
 pub use loan::{Away, Loan};
 pub use mem::Mem;
 pub use name::{Name, Ring};
+pub use pool::Pool;
