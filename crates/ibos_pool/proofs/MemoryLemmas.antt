@@ -58,6 +58,31 @@ bytes_at-list m address (w ∷ ws) each =
     rw e (each (suc k) (omega arith))) in
     rw (head, rest) refl
 
+pub length-bytes_at : (m : Memory) (address n : ℕ) → length (bytes_at m address n) ≡ n
+unfolding bytes_at
+length-bytes_at m address zero = refl
+length-bytes_at m address (suc n) = ap (λ (k : ℕ). suc k) (length-bytes_at m (address + 1) n)
+
+pub get_or-bytes_at : (m : Memory) (address n k : ℕ) → k < n → get_or (bytes_at m address n) k 0 ≡ byte_at m (address + k)
+unfolding bytes_at
+get_or-bytes_at m address zero k below = absurd (omega arith)
+get_or-bytes_at m address (suc n) zero below = ap (byte_at m) (sym (add-zero address))
+get_or-bytes_at m address (suc n) (suc k) below =
+    let e : address + 1 + k ≡ address + suc k = omega arith in
+    get_or-bytes_at m (address + 1) n k (omega arith) ∙ ap (byte_at m) e
+
+-- a range of two lengths is one behind the other
+pub bytes_at-add : (m : Memory) (address i j : ℕ) → bytes_at m address (i + j) ≡ bytes_at m address i ++ bytes_at m (address + i) j
+unfolding bytes_at
+bytes_at-add m address zero j =
+    let e : zero + j ≡ j = omega arith in
+    rw (e, add-zero address) refl
+bytes_at-add m address (suc i) j =
+    let e : suc i + j ≡ suc (i + j) = omega arith in
+    let f : address + 1 + i ≡ address + suc i = omega arith in
+    let rest = bytes_at-add m (address + 1) i j in
+    rw (e, rest, f) refl
+
 get_or-overwrite-below : (xs ws : List ℕ) (at i : ℕ) → at + length ws ≤ length xs → i < at → get_or (overwrite xs at ws) i 0 ≡ get_or xs i 0
 get_or-overwrite-below xs ws at i fits below = grind (arith, places)
 

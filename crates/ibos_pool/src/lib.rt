@@ -11,6 +11,7 @@
 #![tactic(auto)]
 
 mod area;
+mod laws;
 mod limits;
 mod loan;
 mod mem;
@@ -19,6 +20,7 @@ mod names;
 mod place;
 mod pool;
 
+pub use laws::{parts_are_apart, ranges_are_lists};
 pub use limits::{
     BUFFER_BYTES, DESCRIPTOR_BYTES, INSTANCE_BUFFERS, MOST_AREAS, RECEIVE_BUFFERS, RING_BYTES,
     RING_SLOTS,
