@@ -1,4 +1,5 @@
-pub mod Places
+pub mod Lending
 pub mod Memory
 pub mod Names
-pub mod Lending
+pub mod Places
+pub mod Tables

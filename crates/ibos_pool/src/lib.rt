@@ -29,3 +29,6 @@ pub use loan::{Away, Loan};
 pub use mem::Mem;
 pub use name::{Name, Ring};
 pub use pool::Pool;
+
+#[cfg(test)]
+mod tests;
