@@ -1,5 +1,5 @@
 -- What a write, a mark and growth leave of a memory.
-use Rattle.std.proofs.Common.{◌≡◌, ◌≢◌, ℕ, zero, suc, ◌+◌, ◌-◌, ◌*◌, ◌/◌, ◌%◌, ◌<◌, ◌≤◌, ◌⊎◌, ◌&&◌, List, [], ◌∷◌, ◌++◌, Bool, true, false, IsTrue, cond, length, take, drop, get_or, set, eqb, ltb, leb, refl, sym, ◌∙◌, ap, subst, inl, inr, ⊎_elim, arith, rules, add-zero, eq-eqb, lit≤}
+use Rattle.std.proofs.Common.{◌≡◌, ◌≢◌, ℕ, zero, suc, ◌+◌, ◌-◌, ◌*◌, ◌/◌, ◌%◌, ◌<◌, ◌≤◌, ◌⊎◌, ◌&&◌, List, [], ◌∷◌, ◌++◌, Bool, true, false, not, IsTrue, cond, length, take, drop, get_or, set, eqb, ltb, leb, refl, sym, ◌∙◌, ap, subst, inl, inr, ⊎_elim, arith, rules, add-zero, eq-eqb, lit≤}
 use Rattle.std.proofs.lemmas.Bool.Decides.{nat_tests}
 use Rattle.std.proofs.lemmas.Bool.{cases_eq, cases_lt}
 use Rattle.std.proofs.lemmas.Grind.{common_steps}
@@ -8,8 +8,8 @@ use Rattle.ibos_pool.specs.declared.place.Place.{Place}
 use Rattle.ibos_pool.specs.declared.name.Ring.TheVariants.{Receive, Transmit}
 use Rattle.ibos_pool.specs.declared.limits.TheConstants.{AREA_SPACING, BUFFER_BYTES, RING_BYTES, DESCRIPTOR_BYTES}
 use Rattle.ibos_pool.specs.Places.{IsApart, IsInside, IsPlaceIn, address_of, area_base, buffers_of, first_of, offset_of, ring_base, same_place, size_of, slot_address}
-use Rattle.ibos_pool.proofs.PlaceLemmas.{size_of-le, offset_of-le}
-use Rattle.ibos_pool.specs.Memory.{Area, Memory, no_area, area_at, byte_at, bytes_at, buffer_at, is_lent_at, IsLent, IsReachable, IsWhole, IsWithin, IsWritten, IsMarked, overwrite, with_bytes, with_buffer}
+use Rattle.ibos_pool.proofs.PlaceLemmas.{size_of-le, offset_of-le, test_from_same}
+use Rattle.ibos_pool.specs.Memory.{Area, Memory, no_area, area_at, byte_at, bytes_at, buffer_at, is_lent_at, IsKept, IsLent, IsReachable, IsWhole, IsWithin, IsWritten, IsMarked, overwrite, with_bytes, with_buffer}
 
 -- an area's bytes begin at its base
 pub byte_at-base : (m : Memory) (area at : ℕ) → at < AREA_SPACING → byte_at m (area_base area + at) ≡ get_or (area_at m area).bytes at 0
@@ -329,6 +329,10 @@ module _ (m : Memory) (whole : IsWhole m) where
       let ends = offset_of-le p place.index in
       is_written m p.area (offset_of p) ws place.area (omega arith) (rw size (size_of-le p.area))
 
+false_from_not : (b : Bool) → not b ≡ true → b ≡ false
+false_from_not true e = sym e
+false_from_not false e = refl
+
 -- whether a buffer is lent, by the mark that was read
 pub lent_by_mark : (m : Memory) (p : Place) (number index : ℕ) (a : Area) (r : Bool) → number ≡ p.area → index ≡ p.index → number < length m
     → a ≡ get_or m number no_area → r ≡ get_or a.lent index false → p.index < buffers_of p.area → (IsTrue r → IsLent m p) × (IsLent m p → IsTrue r)
@@ -336,3 +340,16 @@ unfolding is_lent_at
 lent_by_mark m p number index a r is is_at here read mark has =
     let same : r ≡ is_lent_at m p = rw (mark, read, is, is_at) refl in
     (λ lent. record { place = record { area = rw (← is) here; index = has }; lent = sym same ∙ lent }, λ lent. same ∙ lent.lent)
+
+pub kept_by_mark : (m : Memory) (p : Place) (number index : ℕ) (a : Area) (r : Bool) → number ≡ p.area → index ≡ p.index → number < length m
+    → a ≡ get_or m number no_area → r ≡ get_or a.lent index false → p.index < buffers_of p.area → (IsTrue (not r) → IsKept m p) × (IsKept m p → IsTrue (not r))
+unfolding is_lent_at
+kept_by_mark m p number index a r is is_at here read mark has =
+    let same : r ≡ is_lent_at m p = rw (mark, read, is, is_at) refl in
+    (λ kept. record { place = record { area = rw (← is) here; index = has }; kept = sym same ∙ false_from_not r kept }, λ kept. ap not (same ∙ kept.kept))
+
+pub lent_from_marked : (old new : Memory) (p : Place) → IsPlaceIn (length old) p → IsMarked old new p true → IsLent new p
+lent_from_marked old new p place marked = record { place = rw marked.areas place; lent = marked.lent p ∙ rw (test_from_same p) refl }
+
+pub kept_from_marked : (old new : Memory) (p : Place) → IsPlaceIn (length old) p → IsMarked old new p false → IsKept new p
+kept_from_marked old new p place marked = record { place = rw marked.areas place; kept = marked.lent p ∙ rw (test_from_same p) refl }

@@ -1,8 +1,10 @@
 //! Each call once, places at the edges of the areas, and a table of loans.
 ghost use Rattle.std.specs.Prelude.{◌≡◌, ◌<◌, None, Some, length, replicate, slice_index_or, slice_set, IfOk};
+ghost use Rattle.ibos_pool.specs.declared.place.Place.{Place};
+ghost use Rattle.ibos_pool.specs.Memory.{IsKept, is_lent_at};
 ghost use Rattle.ibos_pool.specs.Tables.{AreLoansOf};
 
-use crate::{Away, Loan, Mem, Name, Pool, Ring};
+use crate::{BUFFER_BYTES, Loan, MOST_AREAS, Mem, Name, Pool, RING_SLOTS, Ring};
 use std::alloc::{AllocError, Global};
 use std::marker::Model;
 use std::process::Abort;
@@ -66,25 +68,150 @@ impl Table {
     }
 }
 
-fn name(area: u16, index: u8) -> Name {
-    Name { area, index }
-}
-
 #[test]
-fn a_table_of_loans_is_filled_emptied_and_closed(rt: HostRuntime) -> Result<(), Fail> {
+fn a_table_of_loans_is_made_filled_emptied_and_closed(rt: HostRuntime) -> Result<(), Fail> {
     let mut pool = Pool::new(rt.alloc())?;
     let mut table = Table::new(rt.alloc(), 3)?;
     if let Some(loan) = pool.take(Name { area: 0, index: 5 }) {
         table.put(1, loan);
     }
-    let taken = table.take(1);
-    match taken {
-        Some(loan) => {
-            assert_eq!(rt; loan.address(), 0x0010_4800);
-            table.put(2, loan);
-        }
-        None => {}
+    match table.take(1) {
+        Some(loan) => table.put(2, loan),
+        None => assert!(rt; false, "the loan was put into the table"),
     }
     table.close(&mut pool);
+    assert_eq!(rt; pool.areas(), 1);
+    match pool.take(Name { area: 0, index: 5 }) {
+        Some(loan) => pool.give(loan),
+        None => assert!(rt; false, "the table gave its loan back"),
+    }
+    Ok(())
+}
+
+#[test]
+fn names_begin_at_the_places_of_the_areas_edges(rt: HostRuntime) -> Result<(), Fail> {
+    let mut pool = Pool::new(rt.alloc())?;
+    for _ in 1..MOST_AREAS {
+        if pool.areas() < MOST_AREAS {
+            pool.grow_instance()?;
+        }
+    }
+    assert_eq!(rt; pool.areas(), 2049);
+    for (area, index, address) in [
+        (0, 0, 0x0010_2000),
+        (0, 5, 0x0010_4800),
+        (0, 63, 0x0012_1800),
+        (1, 0, 0x0020_0000),
+        (1, 3, 0x0020_1800),
+        (1, 4, 0x0020_2000),
+        (1, 19, 0x0020_9800),
+        (2, 0, 0x0030_0000),
+        (2048, 19, 0x8010_9800),
+    ] {
+        assert!(rt; area < pool.areas());
+        assert!(rt; index < if area == 0 { 64 } else { 20 });
+        let name = Name { area, index };
+        match pool.take(name) {
+            Some(loan) => {
+                assert_eq!(rt; loan.address(), address, "{name:?}");
+                assert!(rt; loan.name() == name);
+                match pool.take(name) {
+                    Some(_again) => unreachable!(),
+                    None => {}
+                }
+                pool.give(loan);
+            }
+            None => assert!(rt; false, "{name:?} was taken"),
+        }
+    }
+    Ok(())
+}
+
+// Sets a byte of a buffer.
+fn set(mem: &mut Mem, loan: &Loan, at: usize, byte: u8)
+    requires kept { IsKept mem.old loan.now.place }
+    requires within { at < BUFFER_BYTES }
+    ensures lent { (p : Place) → is_lent_at mem.new p ≡ is_lent_at mem.old p }
+    ensures areas { length mem.new ≡ length mem.old }
+{
+    mem.bytes_mut(loan)[at] = byte;
+}
+
+// The first byte of each descriptor of a ring, added up.
+fn sum_of_ring(mem: &Mem, ring: Ring) -> u32 {
+    let mut sum = 0u32;
+    for slot in 0..RING_SLOTS {
+        let mut descriptor = [0; 16];
+        mem.ring_get(ring, slot, &mut descriptor);
+        sum = sum.wrapping_add(u32::from(descriptor[0]));
+    }
+    sum
+}
+
+// A loan of a name that is free, in a memory that has its place.
+fn taken(rt: &impl Abort, pool: &mut Pool, mem: &Mem, area: u16, index: u8) -> Loan
+    ensures { IsKept mem.now result.place }
+{
+    assert!(rt; area < pool.areas());
+    assert!(rt; index < if area == 0 { 64 } else { 20 });
+    let loan = pool.take(Name { area, index }).expect(rt, "free");
+    assert!(rt; mem.is_kept(&loan));
+    loan
+}
+
+// Lets go of a loan, which only this crate can do.
+fn spend(loan: Loan) {
+    let Loan { name: _, place: _ } = loan;
+}
+
+#[test]
+fn a_buffer_comes_back_as_the_device_left_it(rt: HostRuntime) -> Result<(), Fail> {
+    let mut pool = Pool::new(rt.alloc())?;
+    let mut mem = Mem::new(rt.alloc())?;
+    pool.grow_instance()?;
+    mem.grow_instance()?;
+    assert_eq!(rt; mem.areas(), 2);
+    let loan = taken(&rt, &mut pool, &mem, 0, 5);
+    let before = taken(&rt, &mut pool, &mem, 0, 4);
+    let instance = taken(&rt, &mut pool, &mem, 1, 0);
+    set(&mut mem, &loan, 7, 7);
+    set(&mut mem, &before, 2047, 4);
+    mem.ring_put(Ring::Transmit, 0, &[9; 16]);
+
+    let away = mem.lend(loan);
+    let address = away.address();
+    assert_eq!(rt; address, 0x0010_4800);
+    mem.dev_write(address, &[1, 2]);
+    mem.dev_write(address + 2046, &[3, 4]);
+    mem.dev_write(0x0010_03f0, &[5; 16]);
+    let mut seen = [0; 4];
+    mem.dev_read(address + 2044, &mut seen);
+    assert_eq!(rt; seen, [0, 0, 3, 4]);
+    for (from, len, is_lent) in [
+        (0x0010_4800, 2048, true),
+        (0x0010_4800, 2049, false),
+        (0x0010_47ff, 2, false),
+        (0x0010_4fff, 1, true),
+        (0x0010_4fff, 2, false),
+        (0x0010_5000, 1, false),
+        (0x0010_0000, 16, false),
+        (0, 0, false),
+    ] {
+        assert_eq!(rt; mem.is_lent(from, len), is_lent, "{from} {len}");
+    }
+
+    let loan = mem.regain(away);
+    assert!(rt; loan.name() == Name { area: 0, index: 5 });
+    assert_eq!(rt; loan.address(), 0x0010_4800);
+    let bytes = mem.bytes(&loan);
+    assert!(rt; bytes[..8] == [1, 2, 0, 0, 0, 0, 0, 7]);
+    assert!(rt; bytes[2045..] == [0, 3, 4]);
+    assert_eq!(rt; mem.bytes(&before)[2047], 4);
+    assert!(rt; mem.bytes(&instance).iter().all(|byte| *byte == 0));
+    assert_eq!(rt; sum_of_ring(&mem, Ring::Receive), 5);
+    assert_eq!(rt; sum_of_ring(&mem, Ring::Transmit), 9);
+    spend(loan);
+    spend(before);
+    spend(instance);
     Ok(())
 }
