@@ -1,10 +1,9 @@
 //! Each call once, places at the edges of the areas, and a table of loans.
 ghost use Rattle.std.specs.Prelude.{◌≡◌, ◌<◌, None, Some, length, replicate, slice_index_or, slice_set, IfOk};
-ghost use Rattle.ibos_pool.specs.declared.place.Place.{Place};
-ghost use Rattle.ibos_pool.specs.Memory.{IsKept, is_lent_at};
+ghost use Rattle.ibos_pool.specs.Memory.{IsLent};
 ghost use Rattle.ibos_pool.specs.Tables.{AreLoansOf};
 
-use crate::{BUFFER_BYTES, Loan, MOST_AREAS, Mem, Name, Pool, RING_SLOTS, Ring};
+use crate::{Away, Loan, MOST_AREAS, Mem, Name, Pool, RING_SLOTS, Ring};
 use std::alloc::{AllocError, Global};
 use std::marker::Model;
 use std::process::Abort;
@@ -127,14 +126,23 @@ fn names_begin_at_the_places_of_the_areas_edges(rt: HostRuntime) -> Result<(), F
     Ok(())
 }
 
-// Sets a byte of a buffer.
-fn set(mem: &mut Mem, loan: &Loan, at: usize, byte: u8)
-    requires kept { IsKept mem.old loan.now.place }
-    requires within { at < BUFFER_BYTES }
-    ensures lent { (p : Place) → is_lent_at mem.new p ≡ is_lent_at mem.old p }
-    ensures areas { length mem.new ≡ length mem.old }
-{
+// A loan of a name that is free.
+fn taken(rt: &impl Abort, pool: &mut Pool, area: u16, index: u8) -> Loan {
+    assert!(rt; area < pool.areas());
+    assert!(rt; index < if area == 0 { 64 } else { 20 });
+    pool.take(Name { area, index }).expect(rt, "free")
+}
+
+fn set_byte(rt: &impl Abort, mem: &mut Mem, loan: &Loan, at: usize, byte: u8) {
+    assert!(rt; mem.is_kept(loan));
+    assert!(rt; at < 2048);
     mem.bytes_mut(loan)[at] = byte;
+}
+
+fn byte_of(rt: &impl Abort, mem: &Mem, loan: &Loan, at: usize) -> u8 {
+    assert!(rt; mem.is_kept(loan));
+    assert!(rt; at < 2048);
+    mem.bytes(loan)[at]
 }
 
 // The first byte of each descriptor of a ring, added up.
@@ -148,15 +156,33 @@ fn sum_of_ring(mem: &Mem, ring: Ring) -> u32 {
     sum
 }
 
-// A loan of a name that is free, in a memory that has its place.
-fn taken(rt: &impl Abort, pool: &mut Pool, mem: &Mem, area: u16, index: u8) -> Loan
-    ensures { IsKept mem.now result.place }
+// What the device does with the buffer at address 0x00104800, which alone is lent.
+fn device_writes(rt: &impl Abort, mem: &mut Mem, away: &Away)
+    requires { IsLent mem.old away.now.place }
+    ensures { IsLent mem.new away.now.place }
 {
-    assert!(rt; area < pool.areas());
-    assert!(rt; index < if area == 0 { 64 } else { 20 });
-    let loan = pool.take(Name { area, index }).expect(rt, "free");
-    assert!(rt; mem.is_kept(&loan));
-    loan
+    for (from, len, is_lent) in [
+        (0x0010_4800, 2048, true),
+        (0x0010_4800, 2049, false),
+        (0x0010_47ff, 2, false),
+        (0x0010_4fff, 1, true),
+        (0x0010_4fff, 2, false),
+        (0x0010_5000, 1, false),
+        (0x0010_0000, 16, false),
+        (0, 0, false),
+    ] {
+        assert_eq!(rt; mem.is_lent(from, len), is_lent, "{from} {len}");
+    }
+    let address = away.address();
+    assert_eq!(rt; address, 0x0010_4800);
+    mem.dev_write(address, &[1, 2]);
+    assert!(rt; mem.is_lent(address + 2046, 2));
+    mem.dev_write(address + 2046, &[3, 4]);
+    mem.dev_write(0x0010_03f0, &[5; 16]);
+    let mut seen = [0; 4];
+    assert!(rt; mem.is_lent(address + 2044, 4));
+    mem.dev_read(address + 2044, &mut seen);
+    assert_eq!(rt; seen, [0, 0, 3, 4]);
 }
 
 // Lets go of a loan, which only this crate can do.
@@ -171,43 +197,26 @@ fn a_buffer_comes_back_as_the_device_left_it(rt: HostRuntime) -> Result<(), Fail
     pool.grow_instance()?;
     mem.grow_instance()?;
     assert_eq!(rt; mem.areas(), 2);
-    let loan = taken(&rt, &mut pool, &mem, 0, 5);
-    let before = taken(&rt, &mut pool, &mem, 0, 4);
-    let instance = taken(&rt, &mut pool, &mem, 1, 0);
-    set(&mut mem, &loan, 7, 7);
-    set(&mut mem, &before, 2047, 4);
+    let loan = taken(&rt, &mut pool, 0, 5);
+    let before = taken(&rt, &mut pool, 0, 4);
+    let instance = taken(&rt, &mut pool, 1, 0);
+    set_byte(&rt, &mut mem, &loan, 7, 7);
+    set_byte(&rt, &mut mem, &before, 2047, 8);
     mem.ring_put(Ring::Transmit, 0, &[9; 16]);
 
+    assert!(rt; mem.is_kept(&loan));
     let away = mem.lend(loan);
-    let address = away.address();
-    assert_eq!(rt; address, 0x0010_4800);
-    mem.dev_write(address, &[1, 2]);
-    mem.dev_write(address + 2046, &[3, 4]);
-    mem.dev_write(0x0010_03f0, &[5; 16]);
-    let mut seen = [0; 4];
-    mem.dev_read(address + 2044, &mut seen);
-    assert_eq!(rt; seen, [0, 0, 3, 4]);
-    for (from, len, is_lent) in [
-        (0x0010_4800, 2048, true),
-        (0x0010_4800, 2049, false),
-        (0x0010_47ff, 2, false),
-        (0x0010_4fff, 1, true),
-        (0x0010_4fff, 2, false),
-        (0x0010_5000, 1, false),
-        (0x0010_0000, 16, false),
-        (0, 0, false),
-    ] {
-        assert_eq!(rt; mem.is_lent(from, len), is_lent, "{from} {len}");
-    }
-
+    assert!(rt; away.name() == Name { area: 0, index: 5 });
+    device_writes(&rt, &mut mem, &away);
     let loan = mem.regain(away);
+
     assert!(rt; loan.name() == Name { area: 0, index: 5 });
     assert_eq!(rt; loan.address(), 0x0010_4800);
-    let bytes = mem.bytes(&loan);
-    assert!(rt; bytes[..8] == [1, 2, 0, 0, 0, 0, 0, 7]);
-    assert!(rt; bytes[2045..] == [0, 3, 4]);
-    assert_eq!(rt; mem.bytes(&before)[2047], 4);
-    assert!(rt; mem.bytes(&instance).iter().all(|byte| *byte == 0));
+    for (at, byte) in [(0, 1), (1, 2), (2, 0), (7, 7), (2045, 0), (2046, 3), (2047, 4)] {
+        assert_eq!(rt; byte_of(&rt, &mem, &loan, at), byte, "{at}");
+    }
+    assert_eq!(rt; byte_of(&rt, &mem, &before, 2047), 8);
+    assert_eq!(rt; byte_of(&rt, &mem, &instance, 0), 0);
     assert_eq!(rt; sum_of_ring(&mem, Ring::Receive), 5);
     assert_eq!(rt; sum_of_ring(&mem, Ring::Transmit), 9);
     spend(loan);
