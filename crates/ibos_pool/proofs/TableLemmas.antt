@@ -33,9 +33,9 @@ other_loan old new given other claimed differ loan = record {
 pub table-give : (old new : Names) (front : List (Option Held)) (given : Held) → AreLoansOf old (front ++ Some given ∷ []) → IsClaimed old new given.name false → AreLoansOf new front
 table-give old new front given table claimed = record {
   each = λ k held here.
-    let below = front_below front k held here in
-    let last = get_or_push front (Some given) None (length front) refl in
-    let slot = front_slot front (Some given) k held here in
-    other_loan old new given held claimed (table.apart k (length front) held given (λ same. omega arith) slot last) (table.each k held slot);
+      let below = front_below front k held here in
+      let last = get_or_push front (Some given) None (length front) refl in
+      let slot = front_slot front (Some given) k held here in
+      other_loan old new given held claimed (table.apart k (length front) held given (λ same. omega arith) slot last) (table.each k held slot);
   apart = (table-front old front (Some given) table).apart;
 }

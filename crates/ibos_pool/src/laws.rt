@@ -17,8 +17,7 @@ pub fn parts_are_apart()
     ensures behind { (areas : ℕ) (ring : Ring) (p : Place) → IsPlaceIn areas p → ring_base ring + RING_BYTES ≤ address_of p }
     ensures slots { (ring : Ring) (slot : ℕ) → slot < RING_SLOTS
         → IsInside (ring_base ring) RING_BYTES (slot_address ring slot) DESCRIPTOR_BYTES }
-{
-}
+{}
 
 /// A range of the memory is a list of bytes.
 pub fn ranges_are_lists()
@@ -27,5 +26,4 @@ pub fn ranges_are_lists()
     ensures parts { (m : Memory) (address i j : ℕ) → bytes_at m address (i + j) ≡ bytes_at m address i ++ bytes_at m (address + i) j }
     ensures same { (m n : Memory) (address len : ℕ)
         → ((x : ℕ) → address ≤ x → x < address + len → byte_at n x ≡ byte_at m x) → bytes_at n address len ≡ bytes_at m address len }
-{
-}
+{}

@@ -10,10 +10,12 @@ pub returns : goal.returns
 returns c =
     let place = rw (← c.self.view_is, ← c.loan.view_is) at c.requires.place in
     let read = read_buffer _ c.self.invariant c.loan.inside.place _ _ _ _ place c.from.ensures c.offset-at.ensures c.index_mut-area.ensures.value c.range_mut.ensures.value in
-    rw (← c.self.view_is, ← c.loan.view_is) ((refl, λ w. lend_buffer _ c.self.invariant c.loan.inside.place _ _ _ w place c.from.ensures c.offset-at.ensures c.index_mut-area.ensures.value),
-        record {
-          writes_back = tt;
-          value = read;
-          size = ap (λ (xs : List ℕ). length xs) read ∙ length-bytes_at _ _ _;
-          written = λ bytes len. put_buffer _ c.self.invariant c.loan.inside.place bytes place len;
-        })
+    rw (← c.self.view_is, ← c.loan.view_is) (
+      (refl, λ w. lend_buffer _ c.self.invariant c.loan.inside.place _ _ _ w place c.from.ensures c.offset-at.ensures c.index_mut-area.ensures.value),
+      record {
+        writes_back = tt;
+        value = read;
+        size = ap (λ (xs : List ℕ). length xs) read ∙ length-bytes_at _ _ _;
+        written = λ bytes len. put_buffer _ c.self.invariant c.loan.inside.place bytes place len;
+      },
+    )
