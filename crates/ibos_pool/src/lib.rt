@@ -20,7 +20,7 @@ mod names;
 mod place;
 mod pool;
 
-pub use laws::{parts_are_apart, ranges_are_lists};
+pub use laws::{parts_are_apart, ranges_are_lists, tests_are_exact, writes_keep_to_their_side};
 pub use limits::{
     BUFFER_BYTES, DESCRIPTOR_BYTES, INSTANCE_BUFFERS, MOST_AREAS, RECEIVE_BUFFERS, RING_BYTES,
     RING_SLOTS,
