@@ -50,11 +50,11 @@ fn acts_fit_up_to_their_bounds(rt: HostRuntime) -> Result<(), Fail> {
 // Reads a file of four bytes by three calls.
 fn read(rt: &impl Abort, cabinet: &mut MemCabinet, name: &Bytes, wanted: &[Result<usize, Failed>]) {
     let mut piece = [0; 3];
-    let mut place = 0;
+    let mut place = 0u64;
     for want in wanted {
         let got = cabinet.read_at(name, place, &mut piece);
         assert_eq!(rt; got, *want);
-        place += 2;
+        place = place.saturating_add(2);
     }
 }
 
