@@ -1,5 +1,5 @@
 -- The kernel's tables, and what each act makes of them.
-use Rattle.std.specs.Prelude.{◌≡◌, ℕ, List, [], Bool, true, false, ◌&&◌, is_some, nat_lt, bytes_eq, Option, Some, None, Result, Ok, Err, if◌then◌else◌}
+use Rattle.std.specs.Prelude.{◌≡◌, ℕ, List, [], ◌∷◌, Bool, ◌&&◌, is_some, nat_lt, bytes_eq, Option, Some, None, Result, Ok, Err, if◌then◌else◌}
 use Rattle.ibos_kinds.specs.declared.cookies.Cookie.{Cookie}
 use Rattle.ibos_kinds.specs.Cookies.{cookie_in, jar_text, put, set_breaks}
 use Rattle.ibos_kinds.specs.declared.names.Instance.{Instance}
@@ -7,15 +7,16 @@ use Rattle.ibos_kinds.specs.declared.rule.Rule.{Rule}
 use Rattle.ibos_kinds.specs.declared.act.Act.{Act}
 use Rattle.ibos_kinds.specs.declared.act.Act.TheVariants.{Start, Switch, Close, Go, CookieSet, CookieGet}
 use Rattle.ibos_kinds.specs.declared.outcome.Outcome.{Outcome}
-use Rattle.ibos_kinds.specs.declared.outcome.Item.TheVariants.{Cookies}
-use Rattle.ibos_kinds.specs.declared.outcome.Item.{Item}
-use Rattle.std.specs.Prelude.{◌∷◌}
+use Rattle.ibos_kinds.specs.declared.outcome.Item.TheVariants.{Opened, Moved as ItemMoved, Ended, Cookies}
+use Rattle.ibos_kinds.specs.declared.rule.Rule.TheVariants.{U2}
+use Rattle.ibos_page.specs.declared.tabs.Moved.{Moved}
+use Rattle.ibos_page.specs.declared.tabs.Moved.TheVariants.{Same, New}
 use Rattle.ibos_origin.specs.Hosts.{HostTable}
 use Rattle.ibos_origin.specs.Pages.{Page, allowed}
-use Rattle.ibos_page.specs.Tabs.{TabTable, seat_at, live_at, next_at, start_in, opened, moved, closed, with_seat, without, admission, origin_with}
+use Rattle.ibos_page.specs.Tabs.{TabTable, seat_at, live_at, start_in, go_in, opened, moved, closed, with_seat, without, admission, origin_with}
 use Rattle.ibos_cookie.specs.Jars.{OriginJar, jar_of}
 use Rattle.ibos_model.specs.Journal.{is_ok}
-use Rattle.ibos_model.specs.Rows.{accepted, denied, answer, start_row, switch_row, close_row, go_row}
+use Rattle.ibos_model.specs.Rows.{accepted, denied, answer, open_row, close_row}
 
 pub record Tables : Type 0 where
   pub hosts : HostTable
@@ -38,12 +39,27 @@ let_in (Some rule) row = denied rule
 abbrev pub get_at : List OriginJar → List ℕ → Instance → Outcome
 get_at jars origin who = accepted (Cookies who (jar_text (jar_of jars origin)) ∷ [])
 
+-- a page opens as the instance that would start
+abbrev pub started_by : Result Instance Rule → Result Page Rule → Outcome
+started_by (Ok who) r = open_row who r
+started_by (Err rule) r = denied rule
+
+-- an instance goes to a page
+abbrev pub gone_by : Instance → Page → Result Moved Rule → Outcome
+gone_by who page (Ok Same) = accepted (ItemMoved who page.url ∷ [])
+gone_by who page (Ok (New next)) = accepted (Ended who ∷ Opened next page.url ∷ [])
+gone_by who page (Err rule) = denied rule
+
+abbrev pub go_at : TabTable → Instance → Result Page Rule → Outcome
+go_at t who (Ok page) = gone_by who page (go_in who (origin_at t who) page)
+go_at t who (Err rule) = denied rule
+
 -- the outcome of an act, by the tables
 abbrev pub row : Tables → Act → Outcome
-row t (Start tab url) = start_row (live_at t.tabs tab) (next_at t.tabs tab) (allowed t.hosts url)
-row t (Switch tab) = switch_row (live_at t.tabs tab)
+row t (Start tab url) = started_by (start_in t.tabs tab) (allowed t.hosts url)
+row t (Switch tab) = if is_some (seat_at t.tabs tab).page then accepted [] else denied U2
 row t (Close tab) = close_row (live_at t.tabs tab)
-row t (Go who url) = let_in (admission t.tabs who) (go_row who (origin_at t.tabs who) (next_at t.tabs who.tab) (allowed t.hosts url))
+row t (Go who url) = let_in (admission t.tabs who) (go_at t.tabs who (allowed t.hosts url))
 row t (CookieSet side who text) = let_in (admission t.tabs who) (answer (set_breaks text (jar_of t.jars (origin_at t.tabs who))))
 row t (CookieGet side who) = let_in (admission t.tabs who) (get_at t.jars (origin_at t.tabs who) who)
 

@@ -1,11 +1,13 @@
 // One step.
-ghost use Rattle.std.specs.Prelude.{◌≡◌, ◌<◌, ◌+◌, ◌^◌, ◌↔◌, [], ◌∷◌, true, false, IfOk, OnOk, OnErr, IsTrue};
+ghost use Rattle.std.specs.Prelude.{◌≡◌, ◌<◌, ◌+◌, ◌^◌, [], ◌∷◌, true, is_ok, IfOk, OnOk};
 ghost use Rattle.ibos_kinds.specs.Limits.{Fits};
 
-use ibos_cookie::{CookieFault, Jars};
-use ibos_kinds::{Act, Bytes, Head, Instance, Item, Memory, Outcome, Rule};
-use ibos_origin::{Hosts, Page, UrlFault};
-use ibos_page::{Moved, Tabs};
+use crate::cookies::{get, set};
+use crate::tabs::{close, go, start, switch};
+use ibos_cookie::Jars;
+use ibos_kinds::{Act, Head, Memory, Outcome};
+use ibos_origin::Hosts;
+use ibos_page::Tabs;
 use ibos_route::admit;
 use std::alloc::Global;
 use std::marker::Model;
@@ -30,7 +32,10 @@ impl Model for Kernel {
 
 impl Kernel {
     ghost use Rattle.ibos_model.specs.Journal.{Journal};
-    ghost use Rattle.ibos_kernel.specs.Standing.{Stands};
+    ghost use Rattle.ibos_model.specs.Rows.{out as outcome_of};
+    ghost use Rattle.ibos_model.specs.Laws.{IsCarried};
+    ghost use Rattle.ibos_kernel.specs.Tables.{Serves};
+    ghost use Rattle.ibos_kernel.specs.Standing.{Stands, entry};
 
     /// A kernel that has made no act, over a host table.
     pub fn new(alloc: Global, hosts: Hosts) -> Result<Kernel, Memory>
@@ -61,5 +66,90 @@ impl Kernel {
         ensures { result ≡ self.now.acts }
     {
         self.acts
+    }
+
+    /// Makes one act, and fills `out` with its outcome. Whatever journal the kernel stood for, the outcome
+    /// is that journal's row of the act, and the kernel then stands for the journal with the act's entry.
+    /// After want of memory the kernel is spent, and `out` is open.
+    pub fn step(&mut self, alloc: Global, act: &Act, out: &mut Outcome) -> Result<(), Memory>
+        requires usable { self.old.usable ≡ true }
+        requires acts { self.old.acts < 2 ^ 31 }
+        requires fits { Fits act.now }
+        ensures outcome { OnOk result ((J : Journal) → Stands J self.old → out.new ≡ outcome_of self.old.hosts J act.now) }
+        ensures stands { OnOk result ((J : Journal) → Stands J self.old → Stands (entry act.now out.new ∷ J) self.new) }
+
+        // The head and the items to each instance are what the facts that the act adds give.
+        ensures carried { OnOk result ((J : Journal) → Stands J self.old → IsCarried self.old.hosts J (entry act.now out.new)) }
+
+        ensures hosts { self.new.hosts ≡ self.old.hosts }
+        ensures acts { OnOk result (self.new.acts ≡ self.old.acts + 1) }
+        ensures usable { self.new.usable ≡ is_ok result }
+    {
+        out.clear();
+        match self.serve(alloc, act, out) {
+            Ok(()) => {
+                self.acts += 1;
+                Ok(())
+            }
+            Err(Memory) => {
+                self.usable = false;
+                Err(Memory)
+            }
+        }
+    }
+
+    fn serve(&mut self, alloc: Global, act: &Act, out: &mut Outcome) -> Result<(), Memory>
+        requires fits { Fits act.now }
+        requires head { out.old.head ≡ Head.Ok }
+        requires items { out.old.items ≡ [] }
+        ensures serves { OnOk result (Serves self.old act.now out.new self.new.tabs self.new.jars) }
+        ensures hosts { self.new.hosts ≡ self.old.hosts }
+        ensures acts { self.new.acts ≡ self.old.acts }
+        ensures usable { self.new.usable ≡ self.old.usable }
+    {
+        if let Err(rule) = admit(&self.tabs, act) {
+            out.head = Head::Denied(rule);
+            return Ok(());
+        }
+        match act {
+            Act::Start { tab, url } => {
+                start(
+                    &mut self.tabs,
+                    &self.hosts,
+                    alloc,
+                    *tab,
+                    url.as_slice(),
+                    out,
+                )?;
+                Ok(())
+            }
+            Act::Switch { tab } => {
+                switch(&mut self.tabs, *tab, out);
+                Ok(())
+            }
+            Act::Close { tab } => {
+                close(&mut self.tabs, *tab, out)?;
+                Ok(())
+            }
+            Act::Go { who, url } => {
+                go(
+                    &mut self.tabs,
+                    &self.hosts,
+                    alloc,
+                    *who,
+                    url.as_slice(),
+                    out,
+                )?;
+                Ok(())
+            }
+            Act::CookieSet { who, text, .. } => {
+                set(&mut self.jars, self.tabs.origin(*who), text.as_slice(), out)?;
+                Ok(())
+            }
+            Act::CookieGet { who, .. } => {
+                get(&self.jars, alloc, self.tabs.origin(*who), *who, out)?;
+                Ok(())
+            }
+        }
     }
 }

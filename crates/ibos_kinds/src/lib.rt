@@ -10,6 +10,7 @@ mod names;
 mod outcome;
 mod outside;
 mod rule;
+mod sums;
 
 pub use act::Act;
 pub use bytes::{Bytes, Memory};
@@ -19,6 +20,7 @@ pub use names::{Dir, Endpoint, Handle, Heading, Instance, Local, Proto, Side, Ve
 pub use outcome::{Head, Item, Items, Outcome};
 pub use outside::{Cabinet, Failed, Sink};
 pub use rule::Rule;
+pub use sums::{sum_words, sum16};
 
 #[cfg(test)]
 mod tests;

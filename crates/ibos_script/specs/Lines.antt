@@ -4,7 +4,7 @@ use Rattle.std.specs.Prelude.{ℕ, List, [], ◌∷◌, Bool, false, not, ◌==�
 use Rattle.std.specs.List.{list_all}
 use Rattle.ibos_kinds.specs.declared.names.Side.{Side}
 use Rattle.ibos_kinds.specs.declared.names.Side.TheVariants.{Page, Net}
-use Rattle.ibos_kinds.specs.declared.act.Act.TheVariants.{Start, CookieSet, CookieGet}
+use Rattle.ibos_kinds.specs.declared.act.Act.TheVariants.{Start, Switch, Close, Go, CookieSet, CookieGet}
 use Rattle.ibos_kinds.specs.Limits.{Fits}
 use Rattle.ibos_script.specs.declared.fault.LineFault.{LineFault}
 use Rattle.ibos_script.specs.declared.fault.LineFault.TheVariants.{Long, Byte, Word, Count, Number}
@@ -29,6 +29,24 @@ open_in fields =
     then read_number (number_in 64 (first_word fields)) (λ tab. Ok (Act (Start tab (after_spaces (after_word fields)))))
     else Err Count
 
+-- behind `user switch`: `T`
+unfoldable pub switch_in : List ℕ → Result Line LineFault
+switch_in fields =
+    if not (has_word fields) || has_word (after_word fields)
+    then Err Count
+    else read_number (number_in 64 (first_word fields)) (λ tab. Ok (Act (Switch tab)))
+
+-- behind `user close`: `T`
+unfoldable pub close_in : List ℕ → Result Line LineFault
+close_in fields =
+    if not (has_word fields) || has_word (after_word fields)
+    then Err Count
+    else read_number (number_in 64 (first_word fields)) (λ tab. Ok (Act (Close tab)))
+
+-- behind `page T.N go`: `URL`
+unfoldable pub go_in : List ℕ → List ℕ → Result Line LineFault
+go_in who fields = read_number (instance_in who) (λ who. Ok (Act (Go who (after_spaces fields))))
+
 -- behind `T.N cookie set`: `TEXT`
 unfoldable pub cookie_set_in : Side → List ℕ → List ℕ → Result Line LineFault
 cookie_set_in side who fields = read_number (instance_in who) (λ who. Ok (Act (CookieSet side who (after_spaces fields))))
@@ -50,7 +68,8 @@ cookie_in side who line =
 -- behind `page T.N`
 unfoldable pub page_in : List ℕ → List ℕ → Result Line LineFault
 page_in who line =
-    if is_word (codes "cookie") (first_word line) then cookie_in Page who (after_word line)
+    if is_word (codes "go") (first_word line) then go_in who (after_word line)
+    else if is_word (codes "cookie") (first_word line) then cookie_in Page who (after_word line)
     else Err Word
 
 -- behind `net T.N`
@@ -63,6 +82,8 @@ net_in who line =
 unfoldable pub user_in : List ℕ → Result Line LineFault
 user_in line =
     if is_word (codes "open") (first_word line) then open_in (after_word line)
+    else if is_word (codes "switch") (first_word line) then switch_in (after_word line)
+    else if is_word (codes "close") (first_word line) then close_in (after_word line)
     else Err Word
 
 -- a line of words

@@ -4,7 +4,7 @@ ghost use Rattle.std.specs.List.{list_all};
 ghost use Rattle.ibos_script.specs.Faults.{Gives};
 ghost use Rattle.ibos_script.specs.Words.{after_spaces};
 ghost use Rattle.ibos_script.specs.Lines as spec;
-ghost use Rattle.ibos_script.specs.Lines.{LineFits, line_in, act_in, user_in, page_in, net_in, open_in, cookie_in, cookie_set_in, cookie_get_in};
+ghost use Rattle.ibos_script.specs.Lines.{LineFits, line_in, act_in, user_in, page_in, net_in, open_in, switch_in, close_in, go_in, cookie_in, cookie_set_in, cookie_get_in};
 
 use crate::fault::LineFault;
 use crate::fields::{read_instance, read_number};
@@ -27,6 +27,8 @@ pub enum Line {
 /// A line that is empty, has spaces alone or begins with `#` asks for nothing. Any other is one of
 ///
 /// - `user open T URL`
+/// - `user switch T` and `user close T`
+/// - `page T.N go URL`
 /// - `page T.N cookie set TEXT` and `net T.N cookie set TEXT`
 /// - `page T.N cookie get` and `net T.N cookie get`
 ///
@@ -91,6 +93,12 @@ fn read_user(alloc: Global, line: &[u8]) -> Result<Line, LineFault>
     if command == b"open".as_slice() {
         return read_open(alloc, fields);
     }
+    if command == b"switch".as_slice() {
+        return read_switch(fields);
+    }
+    if command == b"close".as_slice() {
+        return read_close(fields);
+    }
     Err(LineFault::Word)
 }
 
@@ -100,6 +108,9 @@ fn read_page(alloc: Global, who: &[u8], line: &[u8]) -> Result<Line, LineFault>
     ensures fits { IfOk result LineFits }
 {
     let (command, fields) = split_word(line);
+    if command == b"go".as_slice() {
+        return read_go(alloc, who, fields);
+    }
     if command == b"cookie".as_slice() {
         return read_cookie(alloc, Side::Page, who, fields);
     }
@@ -150,6 +161,48 @@ fn read_open(alloc: Global, fields: &[u8]) -> Result<Line, LineFault>
         tab: tab as u8,
         url,
     }))
+}
+
+#[tactic(auto, unfolding(crate::specs::Lines::switch_in))]
+fn read_switch(fields: &[u8]) -> Result<Line, LineFault>
+    ensures line { Gives result (switch_in fields.now) }
+    ensures fits { IfOk result LineFits }
+{
+    let (tab, after) = split_word(fields);
+    if !has_word(fields) || has_word(after) {
+        return Err(LineFault::Count);
+    }
+    let Some(tab) = read_number(64, tab) else {
+        return Err(LineFault::Number);
+    };
+    Ok(Line::Act(Act::Switch { tab: tab as u8 }))
+}
+
+#[tactic(auto, unfolding(crate::specs::Lines::close_in))]
+fn read_close(fields: &[u8]) -> Result<Line, LineFault>
+    ensures line { Gives result (close_in fields.now) }
+    ensures fits { IfOk result LineFits }
+{
+    let (tab, after) = split_word(fields);
+    if !has_word(fields) || has_word(after) {
+        return Err(LineFault::Count);
+    }
+    let Some(tab) = read_number(64, tab) else {
+        return Err(LineFault::Number);
+    };
+    Ok(Line::Act(Act::Close { tab: tab as u8 }))
+}
+
+#[tactic(auto, unfolding(crate::specs::Lines::go_in))]
+fn read_go(alloc: Global, who: &[u8], fields: &[u8]) -> Result<Line, LineFault>
+    ensures line { Gives result (go_in who.now fields.now) }
+    ensures fits { IfOk result LineFits }
+{
+    let Some(who) = read_instance(who) else {
+        return Err(LineFault::Number);
+    };
+    let url = read_rest(alloc, fields)?;
+    Ok(Line::Act(Act::Go { who, url }))
 }
 
 #[tactic(auto, unfolding(crate::specs::Lines::cookie_set_in))]

@@ -33,6 +33,30 @@ fn each_act_is_read_at_the_edges_of_its_fields(rt: HostRuntime) -> Result<(), Fa
         let url = bytes(alloc, url)?;
         says(&rt, alloc, line, Act::Start { tab, url });
     }
+    let tabs = [
+        (b"user switch 0".as_slice(), b"user close 0".as_slice(), 0),
+        (b" user  switch  63 ", b" user  close  63 ", 63),
+        (b"user switch 0000000007", b"user close 0000000007", 7),
+    ];
+    for (switch, close, tab) in tabs {
+        says(&rt, alloc, switch, Act::Switch { tab });
+        says(&rt, alloc, close, Act::Close { tab });
+    }
+    let goes = [
+        (
+            b"page 0.0 go http://a.example/".as_slice(),
+            0,
+            0,
+            b"http://a.example/".as_slice(),
+        ),
+        (b"page 0.0 go", 0, 0, b""),
+        (b" page  63.31  go   a b ", 63, 31, b"a b "),
+    ];
+    for (line, tab, ord, url) in goes {
+        let who = Instance { tab, ord };
+        let url = bytes(alloc, url)?;
+        says(&rt, alloc, line, Act::Go { who, url });
+    }
     let sets = [
         (
             b"page 63.31 cookie set a=1".as_slice(),
@@ -91,14 +115,27 @@ fn the_first_fault_of_a_line_is_answered(rt: HostRuntime) {
         (b"page 64.0 cookie", LineFault::Word),
         (b"net x cookie sets a=1", LineFault::Word),
         (b"page 0.0 open 0 a", LineFault::Word),
+        (b"net 0.0 go http://a.example/", LineFault::Word),
+        (b"user go 0", LineFault::Word),
+        (b"page 0.0 gone", LineFault::Word),
         (b"wire next", LineFault::Word),
         (b"user open ", LineFault::Count),
+        (b"user switch", LineFault::Count),
+        (b"user switch 1 2", LineFault::Count),
+        (b"user switch 64 2", LineFault::Count),
+        (b"user close ", LineFault::Count),
+        (b"user close 64 2", LineFault::Count),
         (b"page 64.0 cookie get x", LineFault::Count),
         (b"user open 64 a", LineFault::Number),
         (b"user open 00000000007 a", LineFault::Number),
         (b"user open 4294967296 a", LineFault::Number),
         (b"user open -1 a", LineFault::Number),
         (b"user open 7.0 a", LineFault::Number),
+        (b"user switch 64", LineFault::Number),
+        (b"user switch 0.0", LineFault::Number),
+        (b"user close 64", LineFault::Number),
+        (b"page 64.0 go", LineFault::Number),
+        (b"page 0.32 go http://a.example/", LineFault::Number),
         (b"page 64.0 cookie get", LineFault::Number),
         (b"page 0.32 cookie get", LineFault::Number),
         (b"net 0 cookie set a=1", LineFault::Number),

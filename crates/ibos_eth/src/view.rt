@@ -1,0 +1,83 @@
+// A frame's header, and what it carries.
+ghost use Rattle.std.specs.Prelude.{◌≡◌, ◌+◌, ◌≤◌, None, Some, length, drop, IfOk, IfErr};
+ghost use Rattle.ibos_kinds.specs.Frames.{number, eth_dest, eth_source, eth_type, eth_payload, eth_broken};
+
+use byteorder::{BigEndian, ByteOrder};
+use ibos_kinds::Rule;
+use std::marker::Model;
+
+// The type of IPv4.
+const IPV4: u16 = 0x0800;
+
+/// An Ethernet II frame that carries IPv4, borrowed. Contracts see the frame's bytes.
+#[derive(Debug, Drop)]
+pub struct EthView<'a> {
+    frame: &'a [u8],
+}
+
+impl<'a> Model for EthView<'a> {
+    ghost use Rattle.std.specs.Prelude.{◌≤◌, List, ℕ, length};
+
+    ghost Value = { List ℕ };
+
+    ghost view = { λ v. v.frame.now };
+
+    ghost invariant = { λ v. 14 ≤ length v.frame.now };
+}
+
+impl<'a> EthView<'a> {
+    /// Views a frame, of any length. It is refused with F1 where it is shorter than the header, and with
+    /// F2 where its type is not that of IPv4.
+    #[tactic(auto, unfolding(ibos_kinds::specs::Frames::eth_broken))]
+    pub fn new(frame: &'a [u8]) -> Result<EthView<'a>, Rule>
+        ensures ok { IfOk result (λ view. (eth_broken frame.now ≡ None) × (view ≡ frame.now)) }
+        ensures err { IfErr result (λ rule. eth_broken frame.now ≡ Some rule) }
+    {
+        if frame.len() < 14 {
+            return Err(Rule::F1);
+        }
+        if type_of(frame) != IPV4 {
+            return Err(Rule::F2);
+        }
+        Ok(EthView { frame })
+    }
+
+    /// The MAC address that the frame goes to.
+    pub fn dest(&self) -> u64
+        ensures { result ≡ eth_dest self.now }
+    {
+        mac_at(self.frame, 0)
+    }
+
+    /// The MAC address that the frame comes from.
+    pub fn source(&self) -> u64
+        ensures { result ≡ eth_source self.now }
+    {
+        mac_at(self.frame, 6)
+    }
+
+    /// All that follows the header, an IPv4 datagram and what may follow it.
+    pub fn payload(&self) -> &'a [u8]
+        ensures { result.now ≡ eth_payload self.now }
+    {
+        &self.frame[14..]
+    }
+}
+
+// The address at a place: six bytes.
+#[tactic(auto, unfolding(ibos_kinds::specs::Frames::number))]
+fn mac_at(frame: &[u8], place: usize) -> u64
+    requires { place + 6 ≤ length frame.now }
+    ensures { result ≡ number 6 (drop place frame.now) }
+{
+    BigEndian::read_u48(&frame[place..])
+}
+
+// The type of what is carried: two bytes after the addresses.
+#[tactic(auto, unfolding(ibos_kinds::specs::Frames::number))]
+fn type_of(frame: &[u8]) -> u16
+    requires { 14 ≤ length frame.now }
+    ensures { result ≡ eth_type frame.now }
+{
+    BigEndian::read_u16(&frame[12..])
+}

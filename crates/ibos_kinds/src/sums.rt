@@ -1,0 +1,62 @@
+// Internet checksums, as RFC 1071 words them.
+ghost use Rattle.std.specs.Prelude.{◌≡◌, ℕ, ◌<◌, ◌≤◌, ◌%◌, ◌^◌, List, ◌++◌, length};
+ghost use Rattle.ibos_kinds.specs.Sums.{plain_sum, carried, sum_words, sum16};
+
+// So few bytes that the plain sum of their words, with a word more, fits 32 bits.
+const PIECE: usize = 65536;
+
+/// The ones' complement sum (RFC 1071) of a word and of the 16-bit words in the bytes, the first byte
+/// of each the higher, an odd last byte padded by zero. It is 0 only where all of them are 0.
+#[tactic(auto, unfolding(crate::specs::Sums::sum_words))]
+pub fn sum_words(start: u16, bytes: &[u8]) -> u16
+    ensures value { result ≡ sum_words start bytes.now }
+
+    // A sum may be taken in parts, each but the last of an even number of bytes.
+    ensures parts { (first : ℕ) (front : List ℕ) → length front % 2 ≡ 0 → start ≡ sum_words first front
+        → result ≡ sum_words first (front ++ bytes.now) }
+{
+    let mut total = start;
+    let mut rest = bytes;
+    while rest.len() > PIECE {
+        let (piece, after) = rest.split_at(PIECE);
+        total = carried(u32::from(total) + plain_sum(piece));
+        rest = after;
+    }
+    carried(u32::from(total) + plain_sum(rest))
+}
+
+/// The checksum (RFC 1071) of the bytes: the complement of the ones' complement sum of their words.
+/// Over bytes that hold their own checksum it is 0.
+#[tactic(auto, unfolding(crate::specs::Sums::sum16))]
+pub fn sum16(bytes: &[u8]) -> u16
+    ensures { result ≡ sum16 bytes.now }
+{
+    u16::MAX - sum_words(0, bytes)
+}
+
+// The sum of the words in a piece.
+fn plain_sum(piece: &[u8]) -> u32
+    requires { length piece.now ≤ PIECE }
+    ensures within { result < 2 ^ 31 }
+    ensures value { result ≡ plain_sum piece.now }
+{
+    let mut total = 0;
+    for place in 0..piece.len() / 2 {
+        total += 256 * u32::from(piece[2 * place]) + u32::from(piece[2 * place + 1]);
+    }
+    if piece.len() % 2 == 1 {
+        total += 256 * u32::from(piece[piece.len() - 1]);
+    }
+    total
+}
+
+// A plain sum in 16 bits, its carries added in.
+fn carried(total: u32) -> u16
+    ensures { result ≡ carried total }
+{
+    if total == 0 {
+        0
+    } else {
+        (1 + (total - 1) % 65535) as u16
+    }
+}
