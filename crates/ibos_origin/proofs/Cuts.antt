@@ -1,7 +1,7 @@
 -- Parts and words, cut off the front.
-use Rattle.std.proofs.Common.{◌≡◌, ◌≢◌, ℕ, ◌+◌, ◌-◌, ◌≤◌, ◌<◌, Bool, true, false, cond, not, List, [], ◌∷◌, Some, refl, sym, ap, ◌∙◌, take, drop, length, filter, slice_get, suc, zero, arith, add-one, inl, inr, length-drop, length-take}
+use Rattle.std.proofs.Common.{◌≡◌, ℕ, ◌+◌, ◌-◌, ◌≤◌, ◌<◌, Bool, true, false, cond, not, List, [], ◌∷◌, refl, take, drop, length, filter, suc, arith, add-one, inl, inr, length-drop, length-take}
 use Rattle.std.specs.Prelude.{◌==◌, nat_lt, ◌⊎◌, if◌then◌else◌}
-use Rattle.std.specs.List.{position_or_len, prefix_len, slice_split, onto_first}
+use Rattle.std.specs.List.{position_or_len, onto_first}
 use Rattle.std.proofs.lemmas.List.{take_all, drop_all}
 use Rattle.std.proofs.lemmas.List.Splits.{slice_split_first}
 use Rattle.std.proofs.lemmas.List.Sums.{prefix_len-le-length}

@@ -1,7 +1,7 @@
-use Rattle.std.proofs.Common.{◌≡◌, ◌≤◌, ◌<◌, ◌∙◌, List, [], length, arith, ap, sym}
+use Rattle.std.proofs.Common.{◌≡◌, ◌<◌, ◌∙◌, length, arith, ap, sym}
 use Rattle.std.proofs.lemmas.Bool.Decides.{nat_tests}
 use Rattle.std.proofs.lemmas.Bool.{cases_lt}
-use Rattle.ibos_origin.specs.Words.{words_of, after_spaces}
+use Rattle.ibos_origin.specs.Words.{words_of}
 use Rattle.ibos_origin.proofs.Cuts.{words_of-after_spaces, words_of-front, front_of-after_spaces, words_of-none}
 use Rattle.ibos_origin.proofs.words.next_word.Goals as goal
 
