@@ -5,3 +5,6 @@ mod view;
 
 pub use view::EthView;
 
+
+#[cfg(test)]
+mod tests;

@@ -18,7 +18,7 @@ pub use names::{Dir, Endpoint, Handle, Heading, Instance, Local, Proto, Side, Ve
 pub use outcome::{Head, Item, Items, Outcome};
 pub use outside::{Cabinet, Failed, Sink};
 pub use rule::Rule;
-pub use sums::{sum16, sum_words};
+pub use sums::{sum_words, sum16};
 
 #[cfg(test)]
 mod tests;

@@ -15,7 +15,7 @@ loop-rest-preserved c =
     let regroup : total + piece + after ≡ total + (plain_sum c.loop-rest.rest.now) = omega (arith, split) in
     record {
       word = omega (arith, now, carried-le (total + piece));
-      so_far = ap (λ n. carried (n + after)) now ∙ carried-add (total + piece) after ∙ ap carried regroup ∙ c.loop-rest.invariant.so_far
+      so_far = ap (λ n. carried (n + after)) now ∙ carried-add (total + piece) after ∙ ap carried regroup ∙ c.loop-rest.invariant.so_far;
     }
 
 pub returns-clause-parts : goal.returns-clause-parts
