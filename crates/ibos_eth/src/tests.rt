@@ -13,10 +13,22 @@ fn a_header_of_ipv4_is_wanted(rt: HostRuntime) {
         (&FRAME[..14], None),
         (FRAME, None),
         // 802.1Q, ARP, IPv6, and a length in place of a type.
-        (b"\x02\x00\x00\x00\x00\x01\x02\x00\x00\x00\x00\xfe\x81\x00\x00\x05\x08\x00".as_slice(), Some(Rule::F2)),
-        (b"\x02\x00\x00\x00\x00\x01\x02\x00\x00\x00\x00\xfe\x08\x06".as_slice(), Some(Rule::F2)),
-        (b"\x02\x00\x00\x00\x00\x01\x02\x00\x00\x00\x00\xfe\x86\xdd".as_slice(), Some(Rule::F2)),
-        (b"\x02\x00\x00\x00\x00\x01\x02\x00\x00\x00\x00\xfe\x00\x08".as_slice(), Some(Rule::F2)),
+        (
+            b"\x02\x00\x00\x00\x00\x01\x02\x00\x00\x00\x00\xfe\x81\x00\x00\x05\x08\x00".as_slice(),
+            Some(Rule::F2),
+        ),
+        (
+            b"\x02\x00\x00\x00\x00\x01\x02\x00\x00\x00\x00\xfe\x08\x06".as_slice(),
+            Some(Rule::F2),
+        ),
+        (
+            b"\x02\x00\x00\x00\x00\x01\x02\x00\x00\x00\x00\xfe\x86\xdd".as_slice(),
+            Some(Rule::F2),
+        ),
+        (
+            b"\x02\x00\x00\x00\x00\x01\x02\x00\x00\x00\x00\xfe\x00\x08".as_slice(),
+            Some(Rule::F2),
+        ),
     ];
     for (frame, rule) in table {
         assert_eq!(rt; EthView::new(frame).err(), rule, "{frame:?}");
