@@ -5,3 +5,5 @@ mod view;
 
 pub use view::EthView;
 
+#[cfg(test)]
+mod tests;

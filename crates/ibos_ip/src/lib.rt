@@ -4,3 +4,6 @@
 mod view;
 
 pub use view::IpView;
+
+#[cfg(test)]
+mod tests;

@@ -8,6 +8,7 @@ use std::marker::Model;
 
 // The length of a header without options, in bytes and in words of four bytes.
 const HEADER: usize = 20;
+
 const WORDS: u8 = 5;
 
 // Of the word that has flags and fragment offset: more fragments, and the offset.

@@ -5,10 +5,11 @@ use Rattle.std.specs.Int.{bytes_high_first}
 use Rattle.ibos_kinds.specs.declared.names.Dir.{Dir}
 use Rattle.ibos_kinds.specs.declared.names.Dir.TheVariants.{In, Out}
 use Rattle.ibos_kinds.specs.declared.names.Local.{Local}
+use Rattle.ibos_kinds.specs.declared.names.Heading.{Heading}
 use Rattle.ibos_kinds.specs.declared.names.Proto.{Proto}
 use Rattle.ibos_kinds.specs.declared.names.Proto.TheVariants.{Tcp, Udp}
 use Rattle.ibos_kinds.specs.Sums.{sum16}
-use Rattle.ibos_kinds.specs.Frames.{IsBytes, number, eth_dest, eth_source, eth_payload, ip_words, ip_total, ip_fragment, ip_protocol, ip_src, ip_dst, ip_payload, seg_src_port, seg_dst_port, seg_payload, seg_len, proto_in, tcp_words, udp_len, udp_checksum, pseudo_header, first_broken}
+use Rattle.ibos_kinds.specs.Frames.{IsBytes, number, eth_dest, eth_source, eth_payload, ip_words, ip_total, ip_fragment, ip_protocol, ip_src, ip_dst, ip_payload, seg_src_port, seg_dst_port, seg_payload, seg_len, proto_in, tcp_words, udp_len, udp_checksum, pseudo_header, first_broken, heading_between, heading_of}
 
 -- the numbers of an IPv4 header, and its options
 pub record IpHeader : Type 0 where
@@ -234,8 +235,16 @@ parts_at dest source b = record {
 unfoldable pub parts_of : List ℕ → Parts
 parts_of w = parts_at (eth_dest w) (eth_source w) (eth_payload w)
 
+-- the heading of a frame that is joined of these parts
+abbrev pub proto_over : Transport → Proto
+proto_over (OverTcp h) = Tcp
+proto_over (OverUdp h) = Udp
+
+abbrev pub parts_heading : Dir → Parts → Heading
+parts_heading dir p = heading_between dir (proto_over p.transport) p.ip.src p.src_port p.ip.dst p.dst_port
+
 -- THE LAW. A frame breaks no rule exactly where it is a datagram of some parts. These parts are unique, and
--- they are those that are read.
+-- they are those that are read, as is their heading.
 abbrev pub BreaksNone : Type 0
 BreaksNone =
     (local : Local) (dir : Dir) (w : List ℕ) → IsBytes w →
@@ -247,3 +256,7 @@ HasOneParts =
 
 abbrev pub AreRead : Type 0
 AreRead = (local : Local) (dir : Dir) (w : List ℕ) (p : Parts) → Datagram local dir w p → p ≡ parts_of w
+
+abbrev pub HasHeading : Type 0
+HasHeading =
+    (local : Local) (dir : Dir) (w : List ℕ) (p : Parts) → Datagram local dir w p → heading_of dir w ≡ parts_heading dir p

@@ -60,3 +60,36 @@ fn carried(total: u32) -> u16
         (1 + (total - 1) % 65535) as u16
     }
 }
+
+#[cfg(test)]
+mod tests {
+    use super::*;
+
+    #[test]
+    fn words_are_summed(rt: HostRuntime) {
+        // The sum of the third row is the example of RFC 1071, section 3.
+        let table: [(u16, &[u8], u16); 9] = [
+            (0, b"", 0),
+            (0, b"\x00\x00\x00", 0),
+            (0, b"\x00\x01\xf2\x03\xf4\xf5\xf6\xf7", 0xDDF2),
+            (0, b"\xff\xff", 0xFFFF),
+            (0xFFFF, b"\x00\x00", 0xFFFF),
+            (0xFFFF, b"\x00\x01", 1),
+            (1, b"\x12", 0x1201),
+            (0x0100, b"\xff\x00\xab", 0xAB01),
+            (0x8000, b"\x80\x00", 1),
+        ];
+        for (start, bytes, sum) in table {
+            assert_eq!(rt; sum_words(start, bytes), sum, "{bytes:?}");
+        }
+        assert_eq!(rt; sum16(b"\x00\x01\xf2\x03\xf4\xf5\xf6\xf7"), 0x220D);
+        assert_eq!(rt; sum16(b""), 0xFFFF);
+    }
+
+    #[test]
+    fn pieces_are_summed(rt: HostRuntime) {
+        // 100,001 bytes of 0xFF are 50,000 words of 0xFFFF and one of 0xFF00.
+        let bytes = [0xFF; 100_001];
+        assert_eq!(rt; sum_words(0, &bytes), 0xFF00);
+    }
+}

@@ -50,8 +50,8 @@ sum16-right front rest k c even fits some is =
     let summed : plain_sum (front ++ (bytes_high_first 2 c ++ rest)) ≡ plain_sum blank + c =
     omega (arith, plain_sum-append front (bytes_high_first 2 c ++ rest) k even, plain_sum-append front (0 ∷ 0 ∷ rest) k even) in
     let stands : Stands (plain_sum blank) c = elim is [
-      inl same ↦ inl (same ∙ sum16-carried blank)
-    | inr ones ↦ inr (sym (sum16-carried blank) ∙ ones.0, ones.1)
+      | inl same ↦ inl (same ∙ sum16-carried blank)
+      | inr ones ↦ inr (sym (sum16-carried blank) ∙ ones.0, ones.1)
     ] in
     sum16-carried (front ++ (bytes_high_first 2 c ++ rest))
     ∙ ap (λ n. 65535 - carried n) summed

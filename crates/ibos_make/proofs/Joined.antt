@@ -11,8 +11,8 @@ use Rattle.ibos_kinds.specs.declared.names.Local.{Local}
 use Rattle.ibos_kinds.specs.declared.names.Proto.{Proto}
 use Rattle.ibos_kinds.specs.declared.names.Proto.TheVariants.{Tcp, Udp}
 use Rattle.ibos_kinds.specs.Sums.{sum16}
-use Rattle.ibos_kinds.specs.Frames.{number, eth_dest, eth_source, eth_type, eth_payload, ip_version, ip_words, ip_total, ip_fragment, ip_protocol, ip_src, ip_dst, ip_header, ip_payload, ip_tail, proto_of, proto_in, seg_src_port, seg_dst_port, seg_payload, seg_len, tcp_words, udp_len, udp_checksum, pseudo_header, is_equal_out, first_broken}
-use Rattle.ibos_kinds.specs.Datagrams.{IpHeader, TcpHeader, UdpHeader, Transport, OverTcp, OverUdp, Parts, ip_bytes, transport_bytes, segment_bytes, frame_bytes, FitsIp, FitsTcp, FitsUdp, IsIpHeader, used, segment_sum, IsTcpSegment, IsUdpSegment, IsSegment, ComesIn, GoesOut, Goes, Datagram, ip_at, transport_at, parts_at, parts_of}
+use Rattle.ibos_kinds.specs.Frames.{number, eth_dest, eth_source, eth_type, eth_payload, ip_version, ip_words, ip_total, ip_fragment, ip_protocol, ip_src, ip_dst, ip_header, ip_payload, ip_tail, proto_of, proto_in, seg_src_port, seg_dst_port, seg_payload, seg_len, tcp_words, udp_len, udp_checksum, pseudo_header, is_equal_out, first_broken, heading_between, heading_of}
+use Rattle.ibos_kinds.specs.Datagrams.{IpHeader, TcpHeader, UdpHeader, Transport, OverTcp, OverUdp, Parts, ip_bytes, transport_bytes, segment_bytes, frame_bytes, FitsIp, FitsTcp, FitsUdp, IsIpHeader, used, segment_sum, IsTcpSegment, IsUdpSegment, IsSegment, ComesIn, GoesOut, Goes, Datagram, ip_at, transport_at, parts_at, parts_of, proto_over, parts_heading}
 use Rattle.ibos_make.proofs.Numbers.{number-bytes}
 use Rattle.ibos_make.proofs.Rules.{IsEthAt, IsIpAt, IsTcpAt, IsUdpAt, IsSegmentAt, AreMacs, AreAddrs, IsTail, IsKept, IsFrameKept, none_first}
 use Rattle.ibos_make.proofs.Reading.{ip_at-bytes, IsIpRead, ip-bytes, IsSegmentRead, tcp-bytes, udp-bytes}
@@ -166,8 +166,8 @@ udp_read local dir dest source ip src_port dst_port h payload rest src dst goes 
         fits = omega (arith, len, total);
         out = filled local dir p goes (udp_len s) (length s) none;
         checksum = elim is.checksum [
-          inl none ↦ inl (number-bytes 2 h.checksum _ is.fits.checksum ∙ none)
-        | inr right ↦ inr (summed right)
+          | inl none ↦ inl (number-bytes 2 h.checksum _ is.fits.checksum ∙ none)
+          | inr right ↦ inr (summed right)
         ];
       };
       room = is.total;
@@ -228,6 +228,18 @@ parts_read local dir w p is =
     read_parts p read.proto read.known is.ip read.room read.parts
     ∙ (λ i. parts_at (sym eth.dest i) (sym eth.source i) (sym eth.payload i))
     ∙ ap parts_of (sym is.joined)
+
+-- the heading that is read is that of the parts that are read
+proto_over-at : (proto : Proto) (s : List ℕ) → proto ≡ proto_over (transport_at proto s)
+proto_over-at Tcp s = refl
+proto_over-at Udp s = refl
+
+pub heading-parts : (dir : Dir) (w : List ℕ) → heading_of dir w ≡ parts_heading dir (parts_of w)
+unfolding heading_of parts_of
+heading-parts dir w =
+    let b : List ℕ = eth_payload w in
+    let s : List ℕ = ip_payload b in
+    ap (λ q. heading_between dir q (ip_src b) (seg_src_port s) (ip_dst b) (seg_dst_port s)) (proto_over-at (proto_in (ip_protocol b)) s)
 
 -- NO RULE IS BROKEN
 

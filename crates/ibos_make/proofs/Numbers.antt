@@ -73,8 +73,8 @@ IsBytes-drop i xs bytes = λ k. let e = get_or-drop i xs k 0 in let h = bytes (i
 pub IsBytes-take : (i : ℕ) (xs : List ℕ) → IsBytes xs → IsBytes (take i xs)
 IsBytes-take i xs bytes = λ k.
     elim (cases_lt k i) [
-      inl before ↦ let e = get_or-take i xs k 0 before in let h = bytes k in rw e h
-    | inr past ↦ let e = get_or_past (take i xs) k 0 (omega (arith, length-take i xs)) in rw e (omega arith)
+      | inl before ↦ let e = get_or-take i xs k 0 before in let h = bytes k in rw e h
+      | inr past ↦ let e = get_or_past (take i xs) k 0 (omega (arith, length-take i xs)) in rw e (omega arith)
     ]
 
 -- from a place on, some bytes stand for their number

@@ -252,8 +252,8 @@ seg_none : (dir : Dir) (protocol src dst : ℕ) (s : List ℕ) → seg_broken di
 unfolding seg_broken
 seg_none dir protocol src dst s h =
     elim (known dir protocol src dst s h) [
-      inl is ↦ (Tcp, ap proto_of is, seg_none_over dir Tcp src dst s (ap (λ n. seg_broken_over dir (proto_of n) src dst s) (sym is) ∙ h))
-    | inr is ↦ (Udp, ap proto_of is, seg_none_over dir Udp src dst s (ap (λ n. seg_broken_over dir (proto_of n) src dst s) (sym is) ∙ h))
+      | inl is ↦ (Tcp, ap proto_of is, seg_none_over dir Tcp src dst s (ap (λ n. seg_broken_over dir (proto_of n) src dst s) (sym is) ∙ h))
+      | inr is ↦ (Udp, ap proto_of is, seg_none_over dir Udp src dst s (ap (λ n. seg_broken_over dir (proto_of n) src dst s) (sym is) ∙ h))
     ]
 
 pub first_none : (local : Local) (dir : Dir) (w : List ℕ) → first_broken local dir w ≡ None → IsFrameKept local dir w

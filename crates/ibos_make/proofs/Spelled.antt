@@ -245,7 +245,7 @@ segment_is dir Tcp dest source b bytes at known seg room =
       len = omega (arith, options);
       total = omega (arith, len, room.segment, room.header);
       checksum = ap (λ n. sum16 (pseudo_header (ip_src b) (ip_dst b) 6 n ++ (segment_bytes p ++ p.payload))) len
-      ∙ ap (λ t. sum16 (pseudo_header (ip_src b) (ip_dst b) 6 (length s) ++ t)) whole ∙ seg.checksum;
+          ∙ ap (λ t. sum16 (pseudo_header (ip_src b) (ip_dst b) 6 (length s) ++ t)) whole ∙ seg.checksum;
     }
 segment_is dir Udp dest source b bytes at known seg room =
     let s : List ℕ = ip_payload b in
@@ -303,8 +303,8 @@ spelled_over local dir w proto bytes kept known seg =
     let spelled : body p ≡ b = body_spelled dir proto (eth_dest w) (eth_source w) b b_bytes d.ip room in
     record {
       joined = sym (frame_bytes-body p
-      ∙ ap (λ t. bytes_high_first 6 (eth_dest w) ++ bytes_high_first 6 (eth_source w) ++ bytes_high_first 2 0x0800 ++ t) spelled
-      ∙ eth_spelled w bytes kept.eth);
+          ∙ ap (λ t. bytes_high_first 6 (eth_dest w) ++ bytes_high_first 6 (eth_source w) ++ bytes_high_first 2 0x0800 ++ t) spelled
+          ∙ eth_spelled w bytes kept.eth);
       dest = number-lt 6 w bytes;
       source = number-lt 6 (drop 6 w) (IsBytes-drop 6 w bytes);
       ip = ip_is_header dir b b_bytes d.ip;

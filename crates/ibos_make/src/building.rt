@@ -12,8 +12,11 @@ use std::alloc::Global;
 
 // The lengths of the headers without options, in bytes.
 const ETHERNET: usize = 14;
+
 const IPV4: usize = 20;
+
 const TCP_HEADER: usize = 20;
+
 const UDP_HEADER: usize = 8;
 
 /// What a frame is to say: the MAC addresses that it goes to and comes from, its ends, and its payload.

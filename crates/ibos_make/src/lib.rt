@@ -6,3 +6,6 @@ mod laws;
 
 pub use building::{FrameSpec, build};
 pub use laws::frames_law;
+
+#[cfg(test)]
+mod tests;

@@ -7,3 +7,6 @@ mod view;
 
 pub use pseudo::pseudo_sum;
 pub use view::SegView;
+
+#[cfg(test)]
+mod tests;

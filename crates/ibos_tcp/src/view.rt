@@ -4,16 +4,18 @@ ghost use Rattle.ibos_tcp.specs.Segments.{HasLengths};
 ghost use Rattle.ibos_kinds.specs.Sums.{sum16};
 ghost use Rattle.ibos_kinds.specs.Frames.{number, proto_of, proto_in, seg_src_port, seg_dst_port, tcp_words, udp_len, seg_payload, pseudo_header, is_equal_out, is_seg_form, is_seg_sum, seg_broken};
 
+use crate::pseudo::pseudo_sum;
 use byteorder::{BigEndian, ByteOrder};
 use ibos_kinds::{Dir, Proto, Rule, sum_words};
 use std::marker::Model;
 
-use crate::pseudo::pseudo_sum;
-
 // The numbers of the protocols, and the lengths of their headers without options.
 const TCP: u8 = 6;
+
 const UDP: u8 = 17;
+
 const TCP_HEADER: usize = 20;
+
 const UDP_HEADER: usize = 8;
 
 /// A TCP segment or a UDP datagram, borrowed. Contracts see its protocol and its bytes.
@@ -39,7 +41,13 @@ impl<'a> SegView<'a> {
     /// header and the bytes, and with F11 where its checksum is wrong; a UDP checksum of 0 is none. What
     /// goes out is refused with F10 where a UDP length isn't that of the bytes, too.
     #[tactic(auto, unfolding(ibos_kinds::specs::Frames::seg_broken))]
-    pub fn new(protocol: u8, src: u32, dst: u32, bytes: &'a [u8], dir: Dir) -> Result<SegView<'a>, Rule>
+    pub fn new(
+        protocol: u8,
+        src: u32,
+        dst: u32,
+        bytes: &'a [u8],
+        dir: Dir,
+    ) -> Result<SegView<'a>, Rule>
         ensures ok { IfOk result (λ view. seg_broken dir protocol src dst bytes.now ≡ None) }
         ensures proto { IfOk result (λ view. view.proto ≡ proto_in protocol) }
         ensures bytes { IfOk result (λ view. view.bytes ≡ bytes.now) }

@@ -1,6 +1,6 @@
-use Rattle.std.proofs.Common.{sym, ◌∙◌}
-use Rattle.ibos_kinds.specs.Datagrams.{parts_of}
-use Rattle.ibos_make.proofs.Joined.{none_broken, parts_read}
+use Rattle.std.proofs.Common.{ap, sym, ◌∙◌}
+use Rattle.ibos_kinds.specs.Datagrams.{parts_of, parts_heading}
+use Rattle.ibos_make.proofs.Joined.{none_broken, parts_read, heading-parts}
 use Rattle.ibos_make.proofs.Spelled.{spelled}
 use Rattle.ibos_make.proofs.laws.frames_law.Goals as goal
 
@@ -14,3 +14,7 @@ returns-clause-unique c = λ local dir w p q is also.
 
 pub returns-clause-read : goal.returns-clause-read
 returns-clause-read c = parts_read
+
+pub returns-clause-heading : goal.returns-clause-heading
+returns-clause-heading c = λ local dir w p is.
+    heading-parts dir w ∙ ap (parts_heading dir) (sym (parts_read local dir w p is))
