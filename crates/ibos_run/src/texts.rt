@@ -48,7 +48,20 @@ fn refusal_of<'a>(
 ) -> Result<Bytes, Memory>
     ensures { IfOk result (λ text. text ≡ codes "refused " ++ file.now ++ codes " " ++ line.now ++ codes " " ++ number.now ++ codes " " ++ name.now ++ codes "\n") }
 {
-    joined(alloc, &[b"refused ", file, b" ", line, b" ", number, b" ", name, b"\n"])
+    joined(
+        alloc,
+        &[
+            b"refused ",
+            file,
+            b" ",
+            line,
+            b" ",
+            number,
+            b" ",
+            name,
+            b"\n",
+        ],
+    )
 }
 
 // Pieces, one after another.
