@@ -1,31 +1,17 @@
 -- What it takes that one entry agrees with its facts.
-use Rattle.std.proofs.Common.{◌≡◌, ◌≢◌, ℕ, ◌+◌, List, [], ◌∷◌, ◌++◌, Bool, true, false, ◌&&◌, Option, Some, None, Ok, Err, Result, refl, sym, ◌∙◌, ap, subst, arith, append-nil, map}
-use Rattle.std.specs.Prelude.{if◌then◌else◌, bytes_eq}
-use Rattle.std.proofs.lemmas.Bool.Decides.{nat_tests}
+use Rattle.std.proofs.Common.{◌≡◌, ◌≢◌, ℕ, List, [], ◌∷◌, Bool, true, false, Option, Some, None, refl, sym, ◌∙◌, ap, append-nil}
 use Rattle.ibos_kinds.specs.declared.names.Instance.{Instance}
-use Rattle.ibos_kinds.specs.declared.names.Side.{Side}
-use Rattle.ibos_kinds.specs.declared.rule.Rule.{Rule}
 use Rattle.ibos_kinds.specs.declared.act.Act.{Act}
-use Rattle.ibos_kinds.specs.declared.act.Act.TheVariants.{Start, Switch, Close, Go, CookieSet, CookieGet}
 use Rattle.ibos_kinds.specs.declared.outcome.Outcome.{Outcome}
-use Rattle.ibos_kinds.specs.declared.outcome.Item.TheVariants.{Opened, Moved, Ended}
-use Rattle.ibos_kinds.specs.declared.cookies.Cookie.{Cookie}
 use Rattle.ibos_origin.specs.Hosts.{HostTable}
-use Rattle.ibos_origin.specs.Pages.{Page, allowed}
-use Rattle.ibos_model.specs.Journal.{Entry, Journal, is_ok, is_accepted, same}
-use Rattle.ibos_model.specs.Tabs.{Tabs, tabs, Opens, Moves, Ends, Life, Unborn, Alive, Gone, changes, changed_by, opening, end, leave, if_ok, next_in, life_with, life_of, origin_of, origin_in, origin_with}
-use Rattle.ibos_model.specs.Jars.{with_set, jar, sets_of}
-use Rattle.ibos_model.specs.Rows.{accepted, denied, admitted, answer, open_row, start_row, switch_row, close_row, leave_row, go_row, set_row, get_row, out}
-use Rattle.ibos_model.specs.Runs.{IsRun, run, run_from, entry_of}
-use Rattle.ibos_model.specs.Facts.{Own, OtherSet, when, facts, facts_at, change_facts, Suits}
-use Rattle.ibos_model.specs.Gives.{Mine, newborn, Delivery, Answer, told, told_at, own_row, own_after, life_after_go, gives, gives_from, mine_from, delivered}
-use Rattle.ibos_model.specs.Laws.{IsIsolated}
-use Rattle.ibos_model.proofs.Folds.{gives_from-append, mine_from-append, same-true, same-refl, bytes_eq-refl, and-true}
-use Rattle.ibos_model.proofs.Fresh.{suits_before, IsSound, tabs_sound, changes_allowed}
-use Rattle.ibos_model.proofs.Changes.{item_of, mine_in, mine_with, changes_told}
-use Rattle.std.specs.Prelude.{nat_lt}
-use Rattle.ibos_kinds.specs.declared.rule.Rule.TheVariants.{U3}
-use Rattle.ibos_kinds.specs.Cookies.{set_breaks}
+use Rattle.ibos_origin.specs.Pages.{Page}
+use Rattle.ibos_model.specs.Journal.{Entry, Journal}
+use Rattle.ibos_model.specs.Tabs.{tabs, Unborn, life_with, origin_with}
+use Rattle.ibos_model.specs.Jars.{sets_of}
+use Rattle.ibos_model.specs.Rows.{admitted, out}
+use Rattle.ibos_model.specs.Facts.{Own, facts_at}
+use Rattle.ibos_model.specs.Gives.{Mine, Delivery, Answer, told, told_at, own_row, gives_from, mine_from}
+use Rattle.ibos_model.proofs.Changes.{mine_in}
 
 -- what is counted for p, read from the journal
 abbrev pub mine_of : HostTable → Instance → List ℕ → Journal → Mine
