@@ -9,7 +9,23 @@ use crate::{Bytes, Instance, Side};
 #[derive(Debug, PartialEq, Eq, Drop)]
 pub enum Act {
     /// The user opens a URL in a tab.
-    Start { tab: u8, url: Bytes },
+    Start {
+        tab: u8,
+        url: Bytes,
+    },
+    /// The user makes a tab the active one.
+    Switch {
+        tab: u8,
+    },
+    /// The user closes a tab.
+    Close {
+        tab: u8,
+    },
+    /// A renderer leaves for a URL.
+    Go {
+        who: Instance,
+        url: Bytes,
+    },
     /// A process of an instance sets a cookie of its origin, by the text `name=value`.
     CookieSet {
         side: Side,
@@ -17,7 +33,10 @@ pub enum Act {
         text: Bytes,
     },
     /// A process of an instance reads the cookies of its origin.
-    CookieGet { side: Side, who: Instance },
+    CookieGet {
+        side: Side,
+        who: Instance,
+    },
 }
 
 impl Act {
@@ -27,6 +46,9 @@ impl Act {
     {
         match self {
             Act::Start { tab, .. } => *tab < 64,
+            Act::Switch { tab } => *tab < 64,
+            Act::Close { tab } => *tab < 64,
+            Act::Go { who, .. } => is_named(*who),
             Act::CookieSet { who, .. } => is_named(*who),
             Act::CookieGet { who, .. } => is_named(*who),
         }

@@ -4,6 +4,7 @@
 
 mod act;
 mod bytes;
+mod cookies;
 mod fakes;
 mod names;
 mod outcome;
@@ -13,6 +14,7 @@ mod sums;
 
 pub use act::Act;
 pub use bytes::{Bytes, Memory};
+pub use cookies::Cookie;
 pub use fakes::{File, MemCabinet, MemSink};
 pub use names::{Dir, Endpoint, Handle, Heading, Instance, Local, Proto, Side, Verdict};
 pub use outcome::{Head, Item, Items, Outcome};

@@ -17,6 +17,10 @@ pub enum Head {
 pub enum Item {
     /// An instance was opened at this URL.
     Opened { who: Instance, url: Bytes },
+    /// An instance stays, and shows this URL of its origin.
+    Moved { who: Instance, url: Bytes },
+    /// An instance ended.
+    Ended { who: Instance },
     /// The cookies of an instance's origin, as `name=value` joined by `; `.
     Cookies { who: Instance, text: Bytes },
 }

@@ -1,0 +1,80 @@
+//! The program `ibos`: hands the words of its command line, files and standard output to the top call,
+//! and ends with its status.
+#![tactic(auto)]
+
+mod files;
+mod stdout;
+
+use files::FileCabinet;
+use ibos_kinds::{Bytes, Memory};
+use ibos_run::{Status, run};
+use std::alloc::Global;
+use std::process::ExitCode;
+use std::rt::Env;
+use std::{env, io};
+use stdout::StdoutSink;
+
+#[cfg(test)]
+mod tests;
+
+// Why the words could not be kept.
+#[derive(Clone, Copy, Debug, PartialEq, Eq)]
+enum WordsFault {
+    Memory,
+    Other,
+}
+
+impl From<Memory> for WordsFault {
+    fn from(_: Memory) -> Self {
+        WordsFault::Memory
+    }
+}
+
+impl From<io::Error> for WordsFault {
+    fn from(error: io::Error) -> Self {
+        if error.kind() == io::ErrorKind::OutOfMemory {
+            WordsFault::Memory
+        } else {
+            WordsFault::Other
+        }
+    }
+}
+
+fn keep(alloc: Global, words: &mut Vec<Bytes>, word: &str) -> Result<(), Memory> {
+    let mut bytes = Bytes::new(alloc);
+    bytes.push_slice(word.as_bytes())?;
+    words.push(bytes)?;
+    Ok(())
+}
+
+// The words behind the program's name.
+fn words_of(rt: &(impl Env + AllocGlobal)) -> Result<Vec<Bytes>, WordsFault> {
+    let mut words = Vec::new(rt.alloc());
+    for word in env::args(rt)?.skip(1) {
+        keep(rt.alloc(), &mut words, word.as_str())?;
+    }
+    Ok(words)
+}
+
+fn exit_of(status: Status) -> u8 {
+    match status {
+        Status::Done => 0,
+        Status::Usage => 2,
+        Status::Refused => 3,
+        Status::ReadFault => 4,
+        Status::WriteFault => 5,
+        Status::Memory => 6,
+    }
+}
+
+fn main(rt: HostRuntime) -> ExitCode {
+    let words = match words_of(&rt) {
+        Ok(words) => words,
+        Err(WordsFault::Memory) => return ExitCode::from(6),
+        Err(WordsFault::Other) => return ExitCode::from(7),
+    };
+    let mut cabinet = FileCabinet::new(&rt);
+    let mut sink = StdoutSink::new(&rt);
+    let status = run(rt.alloc(), words.as_slice(), &mut cabinet, &mut sink);
+    ExitCode::from(exit_of(status))
+}

@@ -1,0 +1,2 @@
+pub mod Jars
+pub mod Faults

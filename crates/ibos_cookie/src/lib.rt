@@ -1,0 +1,10 @@
+//! Cookie jars, one for each origin.
+#![tactic(auto)]
+
+mod jars;
+mod texts;
+
+pub use jars::{CookieFault, Jars};
+
+#[cfg(test)]
+mod tests;

@@ -1,0 +1,133 @@
+-- The row of an act by the tables is its row by the journal that they stand for.
+use Rattle.std.proofs.Common.{◌≡◌, ◌≢◌, ℕ, ◌+◌, ◌<◌, ◌≤◌, Bool, true, false, List, [], ◌∷◌, length, Option, Some, None, Ok, Err, Result, refl, sym, ◌∙◌, ap, subst, arith}
+use Rattle.std.specs.Prelude.{bytes_eq, nat_lt, is_some, ◌-◌, ◌&&◌, ◌==◌, unwrap_or, option_map, if◌then◌else◌}
+use Rattle.std.proofs.lemmas.Bool.Decides.{nat_tests}
+use Rattle.ibos_kinds.specs.declared.cookies.Cookie.{Cookie}
+use Rattle.ibos_kinds.specs.Cookies.{cookie_in, set_breaks, put, jar_text}
+use Rattle.ibos_kinds.specs.declared.names.Instance.{Instance}
+use Rattle.ibos_kinds.specs.declared.names.Side.{Side}
+use Rattle.ibos_kinds.specs.declared.rule.Rule.{Rule}
+use Rattle.ibos_kinds.specs.declared.rule.Rule.TheVariants.{U1, U2, U3, P1, P2}
+use Rattle.ibos_kinds.specs.declared.act.Act.{Act}
+use Rattle.ibos_kinds.specs.declared.act.Act.TheVariants.{Start, Switch, Close, Go, CookieSet, CookieGet}
+use Rattle.ibos_kinds.specs.declared.outcome.Item.TheVariants.{Opened, Moved as ItemMoved, Ended, Cookies}
+use Rattle.ibos_page.specs.declared.tabs.Moved.{Moved}
+use Rattle.ibos_page.specs.declared.tabs.Moved.TheVariants.{Same, New}
+use Rattle.ibos_kinds.specs.declared.outcome.Outcome.{Outcome}
+use Rattle.ibos_kinds.specs.Limits.{Fits}
+use Rattle.ibos_origin.specs.Hosts.{HostTable}
+use Rattle.ibos_origin.specs.Pages.{Page, allowed}
+use Rattle.ibos_page.specs.declared.tabs.Seat.{Seat}
+use Rattle.ibos_page.specs.Tabs.{TabTable, seat_at, live_at, next_at, start_in, go_in, is_live_in, admission, admission_in, empty_seat, opened, moved, closed, with_seat, origin_with}
+use Rattle.ibos_cookie.specs.Jars.{OriginJar, jar_of}
+use Rattle.ibos_model.specs.Journal.{Journal, is_ok, is_accepted}
+use Rattle.ibos_model.specs.Tabs.{Tabs, Opens, Moves, Ends, Life, Unborn, Alive, Gone, changed, tabs, no_tabs, next_in, life_of, origin_of, life_in}
+use Rattle.ibos_model.specs.Focus.{active_tab}
+use Rattle.ibos_model.specs.Jars.{jar, sets_of, with_set}
+use Rattle.ibos_model.specs.Rows.{accepted, denied, admitted, answer, open_row, start_row, switch_row, close_row, go_row, set_row, get_row, out}
+use Rattle.ibos_model.specs.Runs.{IsRun}
+use Rattle.ibos_kernel.specs.Tables.{Tables, origin_at, started_by, gone_by, go_at, let_in, get_at, row, with_started, with_gone, tabs_after, jar_after, Serves}
+use Rattle.ibos_kernel.specs.Standing.{Shows, Stands, life_by, life_at, entry}
+use Rattle.ibos_kernel.proofs.Shown.{none_shown, opens_shown, ends_shown, moves_shown}
+
+-- ---- the row by the tables is the row by the journal
+
+-- an instance is admitted exactly while it lives
+let_in_by : (T : Tabs) (t : TabTable) (who : Instance) (row : Outcome) → Shows T t → admitted (life_in T who) row ≡ let_in (admission t who) row
+let_in_by T t who row shows = ap (λ life. admitted life row) (shows.life who) ∙ by_tests (is_live_in who (seat_at t who.tab)) (nat_lt who.ord (seat_at t who.tab).count)
+  where
+    by_tests : (live past : Bool) → admitted (if live then Alive else if past then Gone else Unborn) row ≡ let_in (if live then None else if past then Some P2 else Some P1) row
+    by_tests true past = refl
+    by_tests false true = refl
+    by_tests false false = refl
+
+lives_by : (who : Instance) (page : Option Page) (count : ℕ) → admission_in who (record { count = count; page = page }) ≡ None → option_map (λ (x : Page). record { tab = who.tab; ord = count - 1 }) page ≡ Some who
+lives_by who None count free = by_past (nat_lt who.ord count) free
+  where
+    by_past : (past : Bool) → (if past then Some P2 else Some P1) ≡ None → option_map {T = Page} (λ (x : Page). record { tab = who.tab; ord = count - 1 }) None ≡ Some who
+    by_past true h = cc
+    by_past false h = cc
+lives_by who (Some page) count free = by_test (who.ord + 1 == count) refl free
+  where
+    by_past : (past : Bool) → (if past then Some P2 else Some P1) ≡ None → ⊥
+    by_past true h = cc
+    by_past false h = cc
+
+    by_test : (newest : Bool) → (who.ord + 1 == count) ≡ newest → (if newest then None else if nat_lt who.ord count then Some P2 else Some P1) ≡ None
+        → Some (record { tab = who.tab; ord = count - 1 }) ≡ Some who
+    by_test true is h = let e : count - 1 ≡ who.ord = grind (arith, nat_tests) in ap (λ n. Some (record { tab = who.tab; ord = n })) e
+    by_test false is h = absurd (by_past (nat_lt who.ord count) h)
+
+-- who is admitted lives in its tab
+pub lives_if : (t : TabTable) (who : Instance) → admission t who ≡ None → live_at t who.tab ≡ Some who
+lives_if t who free = lives_by who (seat_at t who.tab).page (seat_at t who.tab).count free
+
+-- two rows that are one where the instance is admitted
+let_in_same : (t : TabTable) (who : Instance) (row other : Outcome) → (live_at t who.tab ≡ Some who → row ≡ other) → let_in (admission t who) row ≡ let_in (admission t who) other
+let_in_same t who row other same = by_rule (admission t who) refl
+  where
+    by_rule : (rule : Option Rule) → admission t who ≡ rule → let_in rule row ≡ let_in rule other
+    by_rule None is = same (lives_if t who is)
+    by_rule (Some rule) is = refl
+
+-- the row by the tables, in the words of the journal's rows
+abbrev pub row_seen : Tables → Act → Outcome
+row_seen t (Start tab url) = start_row (live_at t.tabs tab) (next_at t.tabs tab) (allowed t.hosts url)
+row_seen t (Switch tab) = switch_row (live_at t.tabs tab)
+row_seen t (Close tab) = close_row (live_at t.tabs tab)
+row_seen t (Go who url) = let_in (admission t.tabs who) (go_row who (origin_at t.tabs who) (next_at t.tabs who.tab) (allowed t.hosts url))
+row_seen t (CookieSet side who text) = let_in (admission t.tabs who) (answer (set_breaks text (jar_of t.jars (origin_at t.tabs who))))
+row_seen t (CookieGet side who) = let_in (admission t.tabs who) (get_at t.jars (origin_at t.tabs who) who)
+
+start_seen : (page : Option Page) (tab count : ℕ) (r : Result Page Rule)
+    → started_by (if is_some page then Err U1 else if nat_lt count 32 then Ok (record { tab = tab; ord = count }) else Err U3) r
+    ≡ start_row (option_map (λ (x : Page). record { tab = tab; ord = count - 1 }) page) (record { tab = tab; ord = count }) r
+start_seen (Some page) tab count r = refl
+start_seen None tab count r = by_room (nat_lt count 32)
+  where
+    by_room : (room : Bool) → started_by (if room then Ok (record { tab = tab; ord = count }) else Err U3) r ≡ (if room then open_row (record { tab = tab; ord = count }) r else denied U3)
+    by_room true = refl
+    by_room false = refl
+
+switch_seen : (page : Option Page) (tab count : ℕ) → (if is_some page then accepted [] else denied U2) ≡ switch_row (option_map (λ (x : Page). record { tab = tab; ord = count - 1 }) page)
+switch_seen (Some page) tab count = refl
+switch_seen None tab count = refl
+
+go_seen : (who next : Instance) (origin : List ℕ) (page : Page) → next ≡ record { tab = who.tab; ord = who.ord + 1 } → gone_by who page (go_in who origin page) ≡ go_row who origin next (Ok page)
+go_seen who next origin page is = rw is (by_tests (bytes_eq page.origin origin) (nat_lt who.ord 31))
+  where
+    by_tests : (same room : Bool) → gone_by who page (if same then Ok Same else if room then Ok (New (record { tab = who.tab; ord = who.ord + 1 })) else Err U3)
+        ≡ (if same then accepted (ItemMoved who page.url ∷ []) else if room then accepted (Ended who ∷ Opened (record { tab = who.tab; ord = who.ord + 1 }) page.url ∷ []) else denied U3)
+    by_tests true room = refl
+    by_tests false true = refl
+    by_tests false false = refl
+
+go_at_seen : (T : Tabs) (t : TabTable) (who : Instance) (r : Result Page Rule) → Shows T t → live_at t who.tab ≡ Some who → go_at t who r ≡ go_row who (origin_at t who) (next_at t who.tab) r
+go_at_seen T t who (Err rule) shows lives = refl
+go_at_seen T t who (Ok page) shows lives =
+    go_seen who (next_at t who.tab) (origin_at t who) page (ap (λ n. record { tab = who.tab; ord = n }) (sym (shows.newest who.tab who lives)))
+
+pub row-seen : (J : Journal) (t : Tables) (act : Act) → Stands J t → row t act ≡ row_seen t act
+row-seen J t (Start tab url) stands = start_seen (seat_at t.tabs tab).page tab (seat_at t.tabs tab).count (allowed t.hosts url)
+row-seen J t (Switch tab) stands = switch_seen (seat_at t.tabs tab).page tab (seat_at t.tabs tab).count
+row-seen J t (Close tab) stands = refl
+row-seen J t (Go who url) stands = let_in_same t.tabs who (go_at t.tabs who (allowed t.hosts url)) (go_row who (origin_at t.tabs who) (next_at t.tabs who.tab) (allowed t.hosts url)) (go_at_seen (tabs t.hosts J) t.tabs who (allowed t.hosts url) stands.shown)
+row-seen J t (CookieSet side who text) stands = refl
+row-seen J t (CookieGet side who) stands = refl
+
+pub row_stands : (J : Journal) (t : Tables) (act : Act) → Stands J t → row_seen t act ≡ out t.hosts J act
+row_stands J t (Start tab url) stands = rw (stands.shown.live tab, stands.shown.count tab) refl
+row_stands J t (Switch tab) stands = rw (stands.shown.live tab) refl
+row_stands J t (Close tab) stands = rw (stands.shown.live tab) refl
+row_stands J t (Go who url) stands =
+    let_in_same t.tabs who (go_row who (origin_at t.tabs who) (next_at t.tabs who.tab) (allowed t.hosts url)) (go_row who (origin_of t.hosts J who) (next_in (tabs t.hosts J) who.tab) (allowed t.hosts url))
+    (λ lives. rw (stands.shown.origin who lives, stands.shown.count who.tab) refl)
+    ∙ sym (let_in_by (tabs t.hosts J) t.tabs who (go_row who (origin_of t.hosts J who) (next_in (tabs t.hosts J) who.tab) (allowed t.hosts url)) stands.shown)
+row_stands J t (CookieSet side who text) stands =
+    let_in_same t.tabs who (answer (set_breaks text (jar_of t.jars (origin_at t.tabs who)))) (set_row text (sets_of t.hosts J (origin_of t.hosts J who)))
+    (λ lives. rw (stands.shown.origin who lives) (ap (λ cookies. answer (set_breaks text cookies)) (stands.jars (origin_at t.tabs who))))
+    ∙ sym (let_in_by (tabs t.hosts J) t.tabs who (set_row text (sets_of t.hosts J (origin_of t.hosts J who))) stands.shown)
+row_stands J t (CookieGet side who) stands =
+    let_in_same t.tabs who (get_at t.jars (origin_at t.tabs who) who) (get_row who (sets_of t.hosts J (origin_of t.hosts J who)))
+    (λ lives. rw (stands.shown.origin who lives) (ap (λ (cookies : List Cookie). accepted (Cookies who (jar_text cookies) ∷ [])) (stands.jars (origin_at t.tabs who))))
+    ∙ sym (let_in_by (tabs t.hosts J) t.tabs who (get_row who (sets_of t.hosts J (origin_of t.hosts J who))) stands.shown)

@@ -1,0 +1,253 @@
+-- What an act makes of the tables stands for the journal with its entry.
+use Rattle.std.proofs.Common.{◌≡◌, ◌≢◌, ℕ, ◌+◌, ◌<◌, ◌≤◌, Bool, true, false, List, [], ◌∷◌, length, Option, Some, None, Ok, Err, Result, refl, sym, ◌∙◌, ap, subst, arith}
+use Rattle.std.specs.Prelude.{bytes_eq, nat_lt, is_some, ◌-◌, ◌&&◌, ◌==◌, unwrap_or, option_map, if◌then◌else◌}
+use Rattle.std.proofs.lemmas.Bool.Decides.{nat_tests}
+use Rattle.ibos_kinds.specs.declared.cookies.Cookie.{Cookie}
+use Rattle.ibos_kinds.specs.Cookies.{cookie_in, set_breaks, put, jar_text}
+use Rattle.ibos_kinds.specs.declared.names.Instance.{Instance}
+use Rattle.ibos_kinds.specs.declared.names.Side.{Side}
+use Rattle.ibos_kinds.specs.declared.rule.Rule.{Rule}
+use Rattle.ibos_kinds.specs.declared.rule.Rule.TheVariants.{P1, P2, U3}
+use Rattle.ibos_kinds.specs.declared.act.Act.{Act}
+use Rattle.ibos_kinds.specs.declared.act.Act.TheVariants.{Start, Switch, Close, Go, CookieSet, CookieGet}
+use Rattle.ibos_kinds.specs.declared.outcome.Item.TheVariants.{Cookies}
+use Rattle.ibos_kinds.specs.declared.outcome.Outcome.{Outcome}
+use Rattle.ibos_kinds.specs.Limits.{Fits}
+use Rattle.ibos_origin.specs.Hosts.{HostTable}
+use Rattle.ibos_origin.specs.Pages.{Page, allowed}
+use Rattle.ibos_page.specs.declared.tabs.Seat.{Seat}
+use Rattle.ibos_page.specs.Tabs.{TabTable, seat_at, live_at, next_at, is_live_in, admission, admission_in, empty_seat, opened, moved, closed, with_seat, live_in, origin_with}
+use Rattle.ibos_cookie.specs.Jars.{OriginJar, jar_of}
+use Rattle.ibos_model.specs.Journal.{Journal, is_ok, is_accepted}
+use Rattle.ibos_model.specs.Tabs.{Tabs, Opens, Moves, Ends, Life, Unborn, Alive, Gone, changed, tabs, no_tabs, next_in, life_of, origin_of, life_in}
+use Rattle.ibos_model.specs.Focus.{active_tab}
+use Rattle.ibos_model.specs.Jars.{jar, sets_of, with_set}
+use Rattle.ibos_model.specs.Rows.{accepted, denied, admitted, answer, start_row, switch_row, close_row, go_row, set_row, get_row, out}
+use Rattle.ibos_model.specs.Runs.{IsRun}
+use Rattle.ibos_kernel.specs.Tables.{Tables, origin_at, let_in, get_at, row, with_started, with_gone, tabs_after, jar_after, Serves}
+use Rattle.ibos_kernel.specs.Standing.{Shows, Stands, life_by, life_at, entry}
+use Rattle.ibos_kernel.proofs.Shown.{none_shown, opens_shown, ends_shown, moves_shown}
+use Rattle.std.proofs.lemmas.Slice.Eq.{bytes_eq-Decides}
+use Rattle.std.proofs.lemmas.List.{set-set}
+use Rattle.ibos_page.specs.Tabs.{without}
+use Rattle.ibos_model.specs.Focus.{active_by, without as spec_without}
+use Rattle.ibos_model.specs.Journal.{Entry}
+use Rattle.ibos_model.specs.Jars.{sets_by}
+use Rattle.ibos_model.specs.Tabs.{changed_by, changes, opening, leave, end, if_ok}
+use Rattle.ibos_model.specs.Rows.{open_row, leave_row}
+use Rattle.ibos_model.specs.Laws.{IsCarried}
+use Rattle.ibos_model.proofs.JarSteps.{jar-set}
+use Rattle.ibos_model.proofs.Isolated.{carried}
+use Rattle.ibos_kernel.proofs.Shown.{seat-with}
+use Rattle.ibos_kernel.proofs.Rows.{row_seen, row-seen, row_stands, lives_if}
+
+-- a kernel that has made no act
+pub new_stands : (H : HostTable) (t : TabTable) (jars : List OriginJar) → length t.seats ≡ 64 → ((tab : ℕ) → seat_at t tab ≡ empty_seat) → t.active ≡ None → jars ≡ []
+    → Stands [] (record { hosts = H; tabs = t; jars = jars; acts = 0; usable = true })
+unfolding tabs active_tab sets_of jar
+new_stands H t jars room empty none no_jars = record {
+  run = tt;
+  shown = none_shown t room empty;
+  active = sym none;
+  jars = λ o. ap (λ (js : List OriginJar). jar_of js o) no_jars;
+  acts = refl;
+}
+
+-- which tab is active shows in no other view
+with_active : (T : Tabs) (t : TabTable) (active : Option ℕ) → Shows T t → Shows T (record t { active = active })
+with_active T t active shows = record {
+  room = shows.room;
+  count = shows.count;
+  live = shows.live;
+  newest = shows.newest;
+  life = shows.life;
+  fresh = shows.fresh;
+  origin = shows.origin;
+  url = shows.url;
+}
+
+-- ---- what a row tells where it is accepted
+
+start_free : (live : Option Instance) (next : Instance) (r : Result Page Rule) → is_ok (start_row live next r).head ≡ true → live ≡ None
+start_free (Some who) next r ok = cc
+start_free None next r ok = refl
+
+start_page : (live : Option Instance) (next : Instance) (r : Result Page Rule) → is_ok (start_row live next r).head ≡ true → (page : Page) × (r ≡ Ok page)
+start_page (Some who) next r ok = absurd (cc ok)
+start_page None next (Ok page) ok = (page, refl)
+start_page None next (Err rule) ok = absurd (denied_either (nat_lt next.ord 32) ok)
+  where
+    denied_either : (room : Bool) → is_ok (if room then denied rule else denied U3).head ≡ true → ⊥
+    denied_either true h = cc
+    denied_either false h = cc
+
+switch_lives : (live : Option Instance) → is_ok (switch_row live).head ≡ true → live ≢ None
+switch_lives (Some who) ok none = cc
+switch_lives None ok none = cc
+
+close_lives : (live : Option Instance) → is_ok (close_row live).head ≡ true → (who : Instance) × (live ≡ Some who)
+close_lives (Some who) ok = (who, refl)
+close_lives None ok = absurd (cc ok)
+
+let_in_ok : (rule : Option Rule) (row : Outcome) → is_ok (let_in rule row).head ≡ true → (rule ≡ None) × (is_ok row.head ≡ true)
+let_in_ok None row ok = (refl, ok)
+let_in_ok (Some rule) row ok = absurd (cc ok)
+
+go_page : (who : Instance) (origin : List ℕ) (next : Instance) (r : Result Page Rule) → is_ok (go_row who origin next r).head ≡ true → (page : Page) × (r ≡ Ok page)
+go_page who origin next (Ok page) ok = (page, refl)
+go_page who origin next (Err rule) ok = absurd (cc ok)
+
+no_page : (seat : Seat) (tab : ℕ) → live_in tab seat ≡ None → seat.page ≡ None
+no_page seat tab none = by_page seat.page seat.count none
+  where
+    by_page : (page : Option Page) (count : ℕ) → option_map {U = Instance} (λ (x : Page). record { tab = tab; ord = count - 1 }) page ≡ None → page ≡ None
+    by_page None count h = refl
+    by_page (Some page) count h = cc
+
+-- an instance ends, and the tab's next one opens
+leaves_shown : (T : Tabs) (t : TabTable) (who : Instance) (page : Page) → Shows T t → who.tab < 64 → live_at t who.tab ≡ Some who
+    → Shows (changed (changed T (Ends who)) (Opens (next_in T who.tab) page)) (with_seat t who.tab (opened page (seat_at t who.tab)))
+leaves_shown T t who page shows within lives =
+    let ended = ends_shown T t who.tab who shows within lives in
+    let seat : seat_at (with_seat t who.tab (closed (seat_at t who.tab))) who.tab ≡ closed (seat_at t who.tab) = seat-with t who.tab who.tab (closed (seat_at t who.tab)) shows.room within ∙ here in
+    let both = opens_shown (changed T (Ends who)) (with_seat t who.tab (closed (seat_at t who.tab))) who.tab page ended within (ap (λ (s : Seat). s.page) seat) in
+    let P : TabTable → Type 0 = Shows (changed (changed T (Ends who)) (Opens (next_in T who.tab) page)) in
+    subst P (ap (λ (s : Seat). with_seat (with_seat t who.tab (closed (seat_at t who.tab))) who.tab (opened page s)) seat
+    ∙ ap (λ seats. record { seats = seats; active = t.active }) (set-set t.seats who.tab (closed (seat_at t who.tab)) (opened page (seat_at t who.tab)))) both
+  where
+    here : (if who.tab == who.tab then closed (seat_at t who.tab) else seat_at t who.tab) ≡ closed (seat_at t who.tab)
+    here = grind (arith, nat_tests)
+
+-- ---- the tabs after each act
+
+start_shown : (T : Tabs) (t : TabTable) (tab : ℕ) (r : Result Page Rule) (ok : Bool) → Shows T t → tab < 64 → (ok ≡ true → is_ok (start_row (live_at t tab) (next_at t tab) r).head ≡ true)
+    → Shows (changed_by T (if_ok ok (opening T tab r))) (if ok then with_started t tab r else t)
+start_shown T t tab r false shows within row = shows
+start_shown T t tab r true shows within row =
+    let free : (seat_at t tab).page ≡ None = no_page (seat_at t tab) tab (start_free (live_at t tab) (next_at t tab) r (row refl)) in
+    let page = start_page (live_at t tab) (next_at t tab) r (row refl) in
+    rw page.1 (with_active _ (with_seat t tab (opened page.0 (seat_at t tab))) (Some tab) (opens_shown T t tab page.0 shows within free))
+
+close_shown : (T : Tabs) (t : TabTable) (tab : ℕ) (ok : Bool) → Shows T t → tab < 64 → (ok ≡ true → is_ok (close_row (live_at t tab)).head ≡ true)
+    → Shows (changed_by T (if_ok ok (end (T.live tab)))) (if ok then record (with_seat t tab (closed (seat_at t tab))) { active = without tab t.active } else t)
+close_shown T t tab false shows within row = shows
+close_shown T t tab true shows within row =
+    let live = close_lives (live_at t tab) (row refl) in
+    rw (shows.live tab, live.1) (with_active _ (with_seat t tab (closed (seat_at t tab))) (without tab t.active) (ends_shown T t tab live.0 shows within live.1))
+
+go_shown : (T : Tabs) (t : TabTable) (who : Instance) (r : Result Page Rule) (ok : Bool) → Shows T t → who.tab < 64
+    → (ok ≡ true → is_ok (let_in (admission t who) (go_row who (origin_at t who) (next_at t who.tab) r)).head ≡ true)
+    → Shows (changed_by T (if_ok ok (leave T who r))) (if ok then with_gone t who r else t)
+go_shown T t who r false shows within row = shows
+go_shown T t who r true shows within row =
+    let admitted = let_in_ok (admission t who) (go_row who (origin_at t who) (next_at t who.tab) r) (row refl) in
+    let lives = lives_if t who admitted.0 in
+    let page = go_page who (origin_at t who) (next_at t who.tab) r admitted.1 in
+    rw (page.1, shows.origin who lives) (by_origin page.0 lives (bytes_eq page.0.origin (origin_at t who)) refl)
+  where
+    by_origin : (page : Page) → live_at t who.tab ≡ Some who → (same : Bool) → bytes_eq page.origin (origin_at t who) ≡ same
+        → Shows (changed_by T (if same then Moves who page.url ∷ [] else Ends who ∷ Opens (next_in T who.tab) page ∷ [])) (with_seat t who.tab (if same then moved page (seat_at t who.tab) else opened page (seat_at t who.tab)))
+    by_origin page lives true same = moves_shown T t who page shows within lives ((bytes_eq-Decides page.origin (origin_at t who)).0 same)
+    by_origin page lives false differ = leaves_shown T t who page shows within lives
+
+ok_of : (outcome row : Outcome) → outcome ≡ row → (ok : Bool) → is_ok outcome.head ≡ ok → ok ≡ true → is_ok row.head ≡ true
+ok_of outcome row is ok head accepted = ap (λ (o : Outcome). is_ok o.head) (sym is) ∙ head ∙ accepted
+
+tabs_stand : (J : Journal) (t : Tables) (act : Act) (outcome : Outcome) → Stands J t → Fits act → outcome ≡ row_seen t act
+    → Shows (tabs t.hosts (entry act outcome ∷ J)) (tabs_after t (is_ok outcome.head) act)
+unfolding tabs
+tabs_stand J t (Start tab url) outcome stands fits is = start_shown (tabs t.hosts J) t.tabs tab (allowed t.hosts url) (is_ok outcome.head) stands.shown fits (ok_of outcome _ is (is_ok outcome.head) refl)
+tabs_stand J t (Switch tab) outcome stands fits is = switched (is_ok outcome.head)
+  where
+    switched : (ok : Bool) → Shows (tabs t.hosts J) (if ok then record t.tabs { active = Some tab } else t.tabs)
+    switched true = with_active _ t.tabs (Some tab) stands.shown
+    switched false = stands.shown
+tabs_stand J t (Close tab) outcome stands fits is = close_shown (tabs t.hosts J) t.tabs tab (is_ok outcome.head) stands.shown fits (ok_of outcome _ is (is_ok outcome.head) refl)
+tabs_stand J t (Go who url) outcome stands fits is = go_shown (tabs t.hosts J) t.tabs who (allowed t.hosts url) (is_ok outcome.head) stands.shown fits.0 (ok_of outcome _ is (is_ok outcome.head) refl)
+tabs_stand J t (CookieSet side who text) outcome stands fits is = stands.shown
+tabs_stand J t (CookieGet side who) outcome stands fits is = stands.shown
+
+without_same : (tab : ℕ) (active : Option ℕ) → spec_without tab active ≡ without tab active
+without_same tab None = refl
+without_same tab (Some active) = refl
+
+active_stands : (J : Journal) (t : Tables) (act : Act) (outcome : Outcome) → Stands J t → outcome ≡ row_seen t act
+    → active_tab (entry act outcome ∷ J) ≡ (tabs_after t (is_ok outcome.head) act).active
+unfolding active_tab
+active_stands J t (Start tab url) outcome stands is = started (is_ok outcome.head) (ok_of outcome _ is (is_ok outcome.head) refl)
+  where
+    started : (ok : Bool) → (ok ≡ true → is_ok (start_row (live_at t.tabs tab) (next_at t.tabs tab) (allowed t.hosts url)).head ≡ true)
+        → (if ok then Some tab else active_tab J) ≡ (if ok then with_started t.tabs tab (allowed t.hosts url) else t.tabs).active
+    started false row = stands.active
+    started true row = let page = start_page (live_at t.tabs tab) (next_at t.tabs tab) (allowed t.hosts url) (row refl) in rw page.1 refl
+active_stands J t (Switch tab) outcome stands is = switched (is_ok outcome.head)
+  where
+    switched : (ok : Bool) → (if ok then Some tab else active_tab J) ≡ (if ok then record t.tabs { active = Some tab } else t.tabs).active
+    switched true = refl
+    switched false = stands.active
+active_stands J t (Close tab) outcome stands is = ended (is_ok outcome.head)
+  where
+    ended : (ok : Bool) → (if ok then spec_without tab (active_tab J) else active_tab J) ≡ (if ok then record (with_seat t.tabs tab (closed (seat_at t.tabs tab))) { active = without tab t.tabs.active } else t.tabs).active
+    ended true = ap (spec_without tab) stands.active ∙ without_same tab t.tabs.active
+    ended false = stands.active
+active_stands J t (Go who url) outcome stands is = gone (is_ok outcome.head) (allowed t.hosts url)
+  where
+    gone : (ok : Bool) (r : Result Page Rule) → active_tab J ≡ (if ok then with_gone t.tabs who r else t.tabs).active
+    gone true (Ok page) = stands.active
+    gone true (Err rule) = stands.active
+    gone false r = stands.active
+active_stands J t (CookieSet side who text) outcome stands is = stands.active
+active_stands J t (CookieGet side who) outcome stands is = stands.active
+
+-- the jar of an origin after an act
+jars_stand : (J : Journal) (t : Tables) (act : Act) (outcome : Outcome) → Stands J t → outcome ≡ row_seen t act → (o : List ℕ)
+    → jar_after t (is_ok outcome.head) act o ≡ jar (sets_of t.hosts (entry act outcome ∷ J) o)
+unfolding sets_of
+jars_stand J t (CookieSet side who text) outcome stands is o = set (is_ok outcome.head) (ok_of outcome _ is (is_ok outcome.head) refl)
+  where
+    one_set : (same : Bool) → (if same then put (cookie_in text) (jar_of t.jars o) else jar_of t.jars o) ≡ jar (with_set same text (sets_of t.hosts J o))
+    one_set true = ap (put (cookie_in text)) (stands.jars o) ∙ sym (jar-set (cookie_in text) (sets_of t.hosts J o))
+    one_set false = stands.jars o
+
+    set : (ok : Bool) → (ok ≡ true → is_ok (let_in (admission t.tabs who) (answer (set_breaks text (jar_of t.jars (origin_at t.tabs who))))).head ≡ true)
+        → (if ok && bytes_eq (origin_at t.tabs who) o then put (cookie_in text) (jar_of t.jars o) else jar_of t.jars o) ≡ jar (with_set (ok && bytes_eq (origin_of t.hosts J who) o) text (sets_of t.hosts J o))
+    set false row = stands.jars o
+    set true row =
+        let admitted = let_in_ok (admission t.tabs who) _ (row refl) in
+        rw (stands.shown.origin who (lives_if t.tabs who admitted.0)) (one_set (bytes_eq (origin_at t.tabs who) o))
+jars_stand J t (Start tab url) outcome stands is o = stands.jars o
+jars_stand J t (Switch tab) outcome stands is o = stands.jars o
+jars_stand J t (Close tab) outcome stands is o = stands.jars o
+jars_stand J t (Go who url) outcome stands is o = stands.jars o
+jars_stand J t (CookieGet side who) outcome stands is o = stands.jars o
+
+-- an act that the tables serve
+pub step_stands : (J : Journal) (t : Tables) (act : Act) (outcome : Outcome) (tabs : TabTable) (jars : List OriginJar) (acts : ℕ) (usable : Bool) → Stands J t → Fits act → Serves t act outcome tabs jars
+    → acts ≡ t.acts + 1 → Stands (entry act outcome ∷ J) (record { hosts = t.hosts; tabs = tabs; jars = jars; acts = acts; usable = usable })
+step_stands J t act outcome tabs jars acts usable stands fits serves counted =
+    let told : outcome ≡ row_seen t act = serves.told ∙ row-seen J t act stands in
+    record {
+      run = (told ∙ row_stands J t act stands, stands.run);
+      shown = let P : TabTable → Type 0 = Shows _ in subst P (sym serves.tabs_are) (tabs_stand J t act outcome stands fits told);
+      active = active_stands J t act outcome stands told ∙ ap (λ (table : TabTable). table.active) (sym serves.tabs_are);
+      jars = λ o. serves.jars_are o ∙ jars_stand J t act outcome stands told o;
+      acts = omega (arith, stands.acts, counted);
+    }
+
+-- the outcome is the journal's
+pub step_told : (J : Journal) (t : Tables) (act : Act) (outcome : Outcome) (tabs : TabTable) (jars : List OriginJar) → Stands J t → Serves t act outcome tabs jars → outcome ≡ out t.hosts J act
+step_told J t act outcome tabs jars stands serves = serves.told ∙ row-seen J t act stands ∙ row_stands J t act stands
+
+-- the same, as the code says it: what was served, and the count of acts one higher
+pub step_kept : (J : Journal) (t served inside : Tables) (act : Act) (outcome : Outcome) → inside ≡ served → served.hosts ≡ t.hosts → served.acts ≡ t.acts
+    → Stands J t → Fits act → Serves t act outcome served.tabs served.jars → Stands (entry act outcome ∷ J) (record inside { acts = inside.acts + 1 })
+step_kept J t served inside act outcome is hosts acts stands fits serves =
+    let made = step_stands J t act outcome served.tabs served.jars (served.acts + 1) served.usable stands fits serves (ap (λ n. n + 1) acts) in
+    let P : HostTable → Type 0 = λ H. Stands (entry act outcome ∷ J) (record { hosts = H; tabs = served.tabs; jars = served.jars; acts = served.acts + 1; usable = served.usable }) in
+    let Q : Tables → Type 0 = λ x. Stands (entry act outcome ∷ J) (record x { acts = x.acts + 1 }) in
+    subst Q (sym is) (subst P (sym hosts) made)
+
+-- what the act tells each instance is what its facts give
+pub step_carried : (J : Journal) (t : Tables) (act : Act) (outcome : Outcome) (tabs : TabTable) (jars : List OriginJar) → Stands J t → Serves t act outcome tabs jars
+    → IsCarried t.hosts J (entry act outcome)
+step_carried J t act outcome tabs jars stands serves = carried t.hosts J (entry act outcome) (step_told J t act outcome tabs jars stands serves, stands.run)

@@ -1,0 +1,52 @@
+-- Tables that stand for a journal.
+use Rattle.std.specs.Prelude.{ℕ, ◌≡◌, ◌+◌, ◌≤◌, List, [], ◌∷◌, false, length, Option, Some, None, nat_lt, if◌then◌else◌}
+use Rattle.ibos_kinds.specs.declared.names.Instance.{Instance}
+use Rattle.ibos_kinds.specs.declared.act.Act.{Act}
+use Rattle.ibos_kinds.specs.declared.outcome.Outcome.{Outcome}
+use Rattle.ibos_origin.specs.Pages.{Page}
+use Rattle.ibos_page.specs.declared.tabs.Seat.{Seat}
+use Rattle.ibos_page.specs.Tabs.{TabTable, seat_at, live_at, is_live_in}
+use Rattle.ibos_cookie.specs.Jars.{jar_of}
+use Rattle.ibos_model.specs.Journal.{Journal, Entry}
+use Rattle.ibos_model.specs.Tabs.{Tabs, Life, Unborn, Alive, Gone, tabs, life_in, origin_in}
+use Rattle.ibos_model.specs.Focus.{active_tab}
+use Rattle.ibos_model.specs.Jars.{jar, sets_of}
+use Rattle.ibos_model.specs.Runs.{IsRun}
+use Rattle.ibos_kernel.specs.Tables.{Tables, origin_at}
+
+-- whether an instance lives, by its tab's seat
+abbrev pub life_by : Instance → Seat → Life
+life_by who seat =
+    if is_live_in who seat then Alive
+    else if nat_lt who.ord seat.count then Gone
+    else Unborn
+
+abbrev pub life_at : TabTable → Instance → Life
+life_at t who = life_by who (seat_at t who.tab)
+
+abbrev pub url_with : Option Page → List ℕ
+url_with None = []
+url_with (Some page) = page.url
+
+-- the table of tabs shows what the journal's views of tabs say
+pub record Shows (T : Tabs) (t : TabTable) : Type 0 where
+  pub room : length t.seats ≡ 64
+  pub count : (tab : ℕ) → T.count tab ≡ (seat_at t tab).count
+  pub live : (tab : ℕ) → T.live tab ≡ live_at t tab
+  pub newest : (tab : ℕ) (who : Instance) → live_at t tab ≡ Some who → who.ord + 1 ≡ (seat_at t tab).count
+  pub life : (who : Instance) → life_in T who ≡ life_at t who
+  pub fresh : (who : Instance) → (seat_at t who.tab).count ≤ who.ord → T.is_gone who ≡ false
+  pub origin : (who : Instance) → live_at t who.tab ≡ Some who → origin_in T who ≡ origin_at t who
+  pub url : (who : Instance) → live_at t who.tab ≡ Some who → T.url who ≡ url_with (seat_at t who.tab).page
+
+-- the kernel's tables stand for a journal, which is that of a run
+pub record Stands (J : Journal) (t : Tables) : Type 0 where
+  pub run : IsRun t.hosts J
+  pub shown : Shows (tabs t.hosts J) t.tabs
+  pub active : active_tab J ≡ t.tabs.active
+  pub jars : (o : List ℕ) → jar_of t.jars o ≡ jar (sets_of t.hosts J o)
+  pub acts : length J ≡ t.acts
+
+-- the entry of an act that heard no frame
+abbrev pub entry : Act → Outcome → Entry
+entry act outcome = record { act = act; outcome = outcome; written = [] }

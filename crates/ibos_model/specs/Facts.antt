@@ -1,0 +1,56 @@
+-- What concerns one instance of one origin.
+use Rattle.std.specs.Prelude.{ℕ, ◌≡◌, ◌≢◌, List, [], ◌∷◌, ◌++◌, Bool, false, ◌&&◌, bytes_eq, if◌then◌else◌}
+use Rattle.ibos_kinds.specs.declared.names.Instance.{Instance}
+use Rattle.ibos_kinds.specs.declared.act.Act.{Act}
+use Rattle.ibos_kinds.specs.declared.act.Act.TheVariants.{Go, CookieSet, CookieGet}
+use Rattle.ibos_origin.specs.Hosts.{HostTable}
+use Rattle.ibos_model.specs.Journal.{Entry, Journal, is_accepted, same}
+use Rattle.ibos_model.specs.Tabs.{Change, Opens, Moves, Ends, changes, tabs, Unborn, life_of, origin_of}
+
+pub data Fact : Type 0 where
+  Opened : (url : List ℕ) → Fact
+  IsAt : (url : List ℕ) → Fact
+  IsEnded : Fact
+  Own : (act : Act) → Fact
+  OtherSet : (text : List ℕ) → Fact
+
+-- the fact, if the test holds
+abbrev pub when : Bool → Fact → List Fact
+when test fact = if test then fact ∷ [] else []
+
+-- the act's actor is a process of the instance
+abbrev pub is_own : Instance → Act → Bool
+is_own p (CookieSet side who text) = same who p
+is_own p (CookieGet side who) = same who p
+is_own p (Go who url) = same who p
+is_own p other = false
+
+-- a change that the instance did not make; within its own act it is told by that
+abbrev pub change_fact : Instance → Bool → Change → List Fact
+change_fact p own (Opens who page) = when (same who p) (Opened page.url)
+change_fact p own (Moves who url) = if own then [] else when (same who p) (IsAt url)
+change_fact p own (Ends who) = if own then [] else when (same who p) IsEnded
+
+abbrev pub change_facts : Instance → Bool → List Change → List Fact
+change_facts p own [] = []
+change_facts p own (c ∷ cs) = change_fact p own c ++ change_facts p own cs
+
+abbrev pub others : (Instance → List ℕ) → Instance → List ℕ → Bool → Act → List Fact
+others origins p o ok (CookieSet side who text) = if same who p then [] else when (ok && bytes_eq (origins who) o) (OtherSet text)
+others origins p o ok other = []
+
+-- what one entry adds
+abbrev pub facts_at : HostTable → Instance → List ℕ → Journal → Entry → List Fact
+facts_at H p o J e =
+    when (is_own p e.act) (Own e.act)
+    ++ others (origin_of H J) p o (is_accepted e) e.act
+    ++ change_facts p (is_own p e.act) (changes H (tabs H J) (is_accepted e) e.act)
+
+-- the facts in the journal's order
+abbrev pub facts : HostTable → Instance → List ℕ → Journal → List Fact
+facts H p o [] = []
+facts H p o (e ∷ J) = facts H p o J ++ facts_at H p o J e
+
+-- the instance never started, or it has this origin
+abbrev pub Suits : HostTable → Instance → List ℕ → Journal → Type 0
+Suits H p o J = life_of H J p ≢ Unborn → origin_of H J p ≡ o

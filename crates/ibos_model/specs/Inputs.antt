@@ -1,0 +1,159 @@
+-- What a command line and the files that it names ask for, and the text that comes of it.
+use Rattle.std.specs.Prelude.{ℕ, ◌+◌, List, [], ◌∷◌, ◌++◌, Bool, true, false, ◌&&◌, nat_lt, bytes_eq, length, take, codes, decimal, Option, Some, None, Result, Ok, Err, if◌then◌else◌}
+use Rattle.ibos_kinds.specs.declared.act.Act.{Act}
+use Rattle.ibos_script.specs.declared.fault.LineFault.{LineFault}
+use Rattle.ibos_script.specs.declared.lines.Line.{Line}
+use Rattle.ibos_script.specs.declared.lines.Line.TheVariants.{Act as ActLine}
+use Rattle.ibos_script.specs.Faults.{number_of, name_of}
+use Rattle.ibos_script.specs.Lines.{line_in}
+use Rattle.ibos_origin.specs.declared.fault.HostFault.{HostFault}
+use Rattle.ibos_origin.specs.HostFaults as host
+use Rattle.ibos_origin.specs.Hosts.{HostTable}
+use Rattle.ibos_origin.specs.Lines.{lines_of}
+use Rattle.ibos_origin.specs.Tables.{hosts_in}
+use Rattle.ibos_model.specs.Journal.{Journal}
+use Rattle.ibos_model.specs.Runs.{run}
+use Rattle.ibos_model.specs.Text.{text_of, end_line}
+use Rattle.ibos_model.specs.Laws.{IsIsolatedIn}
+
+-- ---- command lines
+
+-- the names of the files of `run HOSTS SCRIPT`
+pub record Form : Type 0 where
+  pub hosts : List ℕ
+  pub script : List ℕ
+
+abbrev pub form_of : Bool → List ℕ → List ℕ → Option Form
+form_of is_run hosts script = if is_run then Some (record { hosts = hosts; script = script }) else None
+
+abbrev pub form_in : List (List ℕ) → Option Form
+form_in (verb ∷ hosts ∷ script ∷ []) = form_of (bytes_eq verb (codes "run")) hosts script
+form_in words = None
+
+-- the line that any other list of words is answered with
+unfoldable pub usage_line : List ℕ
+usage_line = codes "usage: ibos run HOSTS SCRIPT [CAPTURE] | ibos drill SEED ROUNDS\n"
+
+-- ---- scripts
+
+-- the first fault of a file: the line that has it, and the fault's number and name
+pub record Refusal : Type 0 where
+  pub line : ℕ
+  pub number : ℕ
+  pub name : List ℕ
+
+-- the acts of a script that stand before its first fault, and that fault
+pub record Reading : Type 0 where
+  pub acts : List Act
+  pub refused : Option Refusal
+
+abbrev pub onto_acts : Act → Reading → Reading
+onto_acts act reading = record { acts = act ∷ reading.acts; refused = reading.refused }
+
+abbrev pub refused_by : Refusal → Reading
+refused_by refusal = record { acts = []; refused = Some refusal }
+
+abbrev pub line_refusal : ℕ → LineFault → Refusal
+line_refusal line fault = record { line = line; number = number_of fault; name = name_of fault }
+
+-- what is read from a line on, where that is what the lines behind it give
+abbrev pub reading_by : ℕ → Result (Option Line) LineFault → Reading → Reading
+reading_by number (Ok None) reading = reading
+reading_by number (Ok (Some (ActLine act))) reading = onto_acts act reading
+reading_by number (Err fault) reading = refused_by (line_refusal number fault)
+
+-- the line holds the byte after the limit
+unfoldable pub too_long : ℕ → Refusal
+too_long number = record { line = number; number = 8; name = codes "TooLong" }
+
+abbrev pub is_last : List (List ℕ) → Bool
+is_last [] = true
+is_last (line ∷ lines) = false
+
+-- what lines give from one of that number on; where the text passes the limit, its last line is too long
+abbrev pub reading_from : Bool → ℕ → List (List ℕ) → Reading
+reading_from passes number [] = record { acts = []; refused = None }
+reading_from passes number (line ∷ lines) =
+    if passes && is_last lines then refused_by (too_long number)
+    else reading_by number (line_in line) (reading_from passes (number + 1) lines)
+
+-- what is read of a script, which is cut behind the byte after the first 67,108,864
+unfoldable pub script_in : List ℕ → List ℕ
+script_in file = take 67108865 file
+
+unfoldable pub reading_of : List ℕ → Reading
+reading_of script = reading_from (nat_lt 67108864 (length script)) 1 (lines_of script)
+
+-- ---- host tables
+
+-- what is read of a host table, which is cut behind the byte after the first 4,194,304
+unfoldable pub table_in : List ℕ → List ℕ
+table_in file = take 4194305 file
+
+-- ---- what is asked for
+
+pub data Input : Type 0 where
+  -- the words are no form
+  NoForm : Input
+  -- the host table has a fault
+  NoHosts : (refusal : Refusal) → Input
+  -- a host table, and what the script gives
+  Session : (hosts : HostTable) (script : Reading) → Input
+
+abbrev pub session_in : HostTable → Option (List ℕ) → Option Input
+session_in H None = None
+session_in H (Some file) = Some (Session H (reading_of (script_in file)))
+
+abbrev pub host_refusal : ℕ × HostFault → Refusal
+host_refusal fault = record { line = fault.0; number = host.number_of fault.1; name = host.name_of fault.1 }
+
+-- the script is looked at where the host table has no fault
+abbrev pub input_over : Result HostTable (ℕ × HostFault) → Option (List ℕ) → Option Input
+input_over (Err fault) script = Some (NoHosts (host_refusal fault))
+input_over (Ok H) script = session_in H script
+
+abbrev pub input_with : Option (List ℕ) → Option (List ℕ) → Option Input
+input_with None script = None
+input_with (Some file) script = input_over (hosts_in (table_in file)) script
+
+abbrev pub input_by : Option Form → (List ℕ → Option (List ℕ)) → Option Input
+input_by None holds = Some NoForm
+input_by (Some form) holds = input_with (holds form.hosts) (holds form.script)
+
+-- what the words ask for, where the bytes of the files that they name are told
+abbrev pub input : List (List ℕ) → (List ℕ → Option (List ℕ)) → Option Input
+input words holds = input_by (form_in words) holds
+
+-- ---- what comes of it
+
+-- the journal of a script
+abbrev pub journal_of : HostTable → Reading → Journal
+journal_of H reading = run H reading.acts []
+
+-- the last line of a run that a fault of a file ended
+unfoldable pub refusal_line : List ℕ → Refusal → List ℕ
+refusal_line file refusal =
+    codes "refused " ++ file ++ codes " " ++ decimal refusal.line ++ codes " " ++ decimal refusal.number ++ codes " " ++ refusal.name ++ codes "\n"
+
+abbrev pub last_line : ℕ → Option Refusal → List ℕ
+last_line acts None = end_line acts
+last_line acts (Some refusal) = refusal_line (codes "script") refusal
+
+-- the text of a journal, and the last line
+abbrev pub printed : Journal → Option Refusal → List ℕ
+printed J refused = text_of J ++ last_line (length J) refused
+
+unfoldable pub session_text : HostTable → Reading → List ℕ
+session_text H reading = printed (journal_of H reading) reading.refused
+
+-- the text that is wanted
+abbrev pub wanted : Input → List ℕ
+wanted NoForm = usage_line
+wanted (NoHosts refusal) = refusal_line (codes "hosts") refusal
+wanted (Session H reading) = session_text H reading
+
+-- In the journal of the inputs, if there is one, each instance is told what the facts that concern it give.
+abbrev pub IsIsolatedInput : Input → Type 0
+IsIsolatedInput NoForm = Unit {0}
+IsIsolatedInput (NoHosts refusal) = Unit {0}
+IsIsolatedInput (Session H reading) = IsIsolatedIn H (journal_of H reading)

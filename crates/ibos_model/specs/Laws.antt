@@ -1,0 +1,33 @@
+-- The laws of journals.
+use Rattle.std.specs.Prelude.{ℕ, ◌≡◌, List, ◌∷◌, ◌++◌}
+use Rattle.ibos_kinds.specs.declared.names.Instance.{Instance}
+use Rattle.ibos_kinds.specs.declared.act.Act.{Act}
+use Rattle.ibos_origin.specs.Hosts.{HostTable}
+use Rattle.ibos_model.specs.Journal.{Entry, Journal}
+use Rattle.ibos_model.specs.Runs.{IsRun, run}
+use Rattle.ibos_model.specs.Facts.{facts, Suits}
+use Rattle.ibos_model.specs.Gives.{gives, told_at, delivered}
+
+-- What an instance is told depends on the facts that concern it, and on nothing else.
+abbrev pub IsIsolated : Type 0
+IsIsolated = (H : HostTable) (A : List Act) (W : List (List ℕ)) (p : Instance) (o : List ℕ) →
+    Suits H p o (run H A W) → delivered p (run H A W) ≡ gives H p o (facts H p o (run H A W))
+
+-- The same of one journal.
+abbrev pub IsIsolatedIn : HostTable → Journal → Type 0
+IsIsolatedIn H J = (p : Instance) (o : List ℕ) → Suits H p o J → delivered p J ≡ gives H p o (facts H p o J)
+
+-- Two runs whose facts agree deliver the same.
+abbrev pub IsIsolatedOverTwo : Type 0
+IsIsolatedOverTwo = (H : HostTable) (A B : List Act) (V W : List (List ℕ)) (p : Instance) (o : List ℕ) →
+    Suits H p o (run H A V) → Suits H p o (run H B W) → facts H p o (run H A V) ≡ facts H p o (run H B W) →
+    delivered p (run H A V) ≡ delivered p (run H B W)
+
+-- What one entry tells an instance is what the facts that it adds give.
+abbrev pub IsCarried : HostTable → Journal → Entry → Type 0
+IsCarried H J e = (p : Instance) (o : List ℕ) → Suits H p o (e ∷ J) →
+    gives H p o (facts H p o (e ∷ J)) ≡ gives H p o (facts H p o J) ++ told_at p e
+
+-- The same of every entry of every run.
+abbrev pub IsCarriedAlways : Type 0
+IsCarriedAlways = (H : HostTable) (J : Journal) (e : Entry) → IsRun H (e ∷ J) → IsCarried H J e

@@ -1,0 +1,11 @@
+pub mod Journal
+pub mod Tabs
+pub mod Focus
+pub mod Jars
+pub mod Rows
+pub mod Runs
+pub mod Facts
+pub mod Gives
+pub mod Laws
+pub mod Text
+pub mod Inputs

@@ -1,0 +1,20 @@
+//! Journals of acts and outcomes, what they mean, and the laws that every run keeps. There is nothing to
+//! run here: each function is a law, which its contract states.
+#![tactic(auto)]
+
+ghost use Rattle.ibos_model.specs.Laws.{IsIsolated, IsIsolatedOverTwo, IsCarriedAlways};
+
+/// In every run each instance is told what the facts that concern it give, whatever else happens.
+pub fn isolation()
+    ensures { IsIsolated }
+{}
+
+/// Two runs in which the same facts concern an instance deliver the same to it.
+pub fn isolation_of_two_runs()
+    ensures { IsIsolatedOverTwo }
+{}
+
+/// What one entry of a run tells an instance is what the facts that the entry adds give.
+pub fn isolation_of_each_entry()
+    ensures { IsCarriedAlways }
+{}

@@ -1,0 +1,6 @@
+mod Pieces
+mod Named
+mod Cuts
+mod Macs
+mod Dotted
+mod Tabled

@@ -1,0 +1,14 @@
+use Rattle.std.proofs.Common.{arith}
+use Rattle.ibos_origin.proofs.Tabled.{refused_at, refused_by, table_read}
+use Rattle.ibos_origin.proofs.hosts.Hosts.read.Goals as goal
+
+pub returns-in_err-read_line : goal.returns-in_err-read_line
+returns-in_err-read_line c =
+    refused_by _ _ _ c.from_residual.ensures.1
+    (refused_at c.in_err-read_line.field-0.0 c.lines.told c.in-Some.line.now c.in-Some.after.now c.lines.rest.now c.args.bytes.now
+    (omega (arith, c.if-bytes-gt-LONGEST.false)) c.lines.invariant.same c.in-Some.ensures.first c.in_err-read_line.ensures.err)
+
+pub returns : goal.returns
+returns c =
+    table_read c.lines.told c.lines.rest.now c.args.bytes.now c.finish.result (omega (arith, c.if-bytes-gt-LONGEST.false))
+    c.lines.invariant.same c.in_default.ensures.first c.finish.ensures

@@ -1,0 +1,189 @@
+// The host table.
+ghost use Rattle.std.specs.Prelude.{◌≡◌, ◌-◌, ◌^◌, ◌<◌, Ok, OnOk, IfErr, Some, None};
+ghost use Rattle.ibos_origin.specs.Hosts.{address_of};
+
+use crate::entry::{Entry, read_entry};
+use crate::fault::{HostFault, HostsFault};
+use crate::index::HostIndex;
+use crate::lines::next_line;
+use ibos_kinds::Local;
+use std::alloc::Global;
+use std::marker::Model;
+
+const LONGEST: usize = 4_194_304;
+
+const MOST_HOSTS: usize = 4096;
+
+/// The host table of a run: this machine's addresses, and the hosts that pages may name.
+#[derive(Debug, Drop)]
+pub struct Hosts {
+    local: Local,
+    hosts: HostIndex,
+}
+
+impl Model for Hosts {
+    ghost use Rattle.ibos_origin.specs.Hosts.{HostTable};
+
+    ghost Value = { HostTable };
+
+    ghost view = { λ h. record { local = h.local; hosts = h.hosts } };
+}
+
+impl Hosts {
+    ghost use Rattle.ibos_origin.specs.Tables.{hosts_in};
+    ghost use Rattle.ibos_origin.specs.Reads.{Reads};
+
+    /// Reads a host table, or tells its first fault.
+    ///
+    /// Each line that is not empty and doesn't begin with `#` is one of `self ADDR MAC`, `gateway MAC` and
+    /// `host NAME ADDR`, whose words are parted by spaces. A name has 1 to 253 of the bytes `a` to `z`, `0`
+    /// to `9`, `-`, `.` and `_`.
+    #[tactic(auto, unfolding(crate::specs::Tables::hosts_in))]
+    pub fn read(alloc: Global, bytes: &[u8]) -> Result<Hosts, HostsFault>
+        ensures { Reads result (hosts_in bytes.now) }
+    {
+        if bytes.len() > LONGEST {
+            return Err(HostsFault::At {
+                line: 0,
+                fault: HostFault::TooLong,
+            });
+        }
+        let mut told = Told::new(alloc);
+        let mut rest = bytes;
+        'lines: while let Some((line, after)) = next_line(rest) {
+            told.read_line(alloc, line)?;
+            rest = after;
+        }
+        told.finish()
+    }
+
+    /// This machine's own addresses and the gateway's MAC address.
+    pub fn local(&self) -> Local
+        ensures { result ≡ self.now.local }
+    {
+        self.local
+    }
+
+    /// The address of the host of that name. None exactly where no host line has that name.
+    pub fn address(&self, host: &[u8]) -> Option<u32>
+        ensures { result ≡ address_of self.now.hosts host.now }
+    {
+        self.hosts.address(host)
+    }
+}
+
+// What the lines so far have said.
+#[derive(Drop)]
+struct Told {
+    lines: u32,
+    own: Option<(u32, u64)>,
+    gateway: Option<u64>,
+    hosts: HostIndex,
+}
+
+impl Model for Told {
+    ghost use Rattle.ibos_origin.specs.Tables.{Told};
+
+    ghost Value = { Told };
+
+    ghost view = { λ t. record { lines = t.lines; own = t.own; gateway = t.gateway; hosts = t.hosts } };
+}
+
+impl Told {
+    ghost use Rattle.ibos_origin.specs.Tables.{nothing_told, with_line, with_entry, at_line, table_of};
+    ghost use Rattle.ibos_origin.specs.Entries.{Own, Gateway, Named};
+    ghost use Rattle.ibos_origin.specs.Reads.{Refuses, Reads};
+
+    fn new(alloc: Global) -> Told
+        ensures { result ≡ nothing_told }
+    {
+        Told {
+            lines: 0,
+            own: None,
+            gateway: None,
+            hosts: HostIndex::new(alloc),
+        }
+    }
+
+    fn read_line(&mut self, alloc: Global, line: &[u8]) -> Result<(), HostsFault>
+        requires { self.old.lines < 2 ^ 32 - 1 }
+        ensures ok { OnOk result (with_line (Ok self.old) line.now ≡ Ok self.new) }
+        ensures err { IfErr result (λ fault. Refuses fault (with_line (Ok self.old) line.now)) }
+    {
+        self.lines += 1;
+        match read_entry(line) {
+            None => Err(self.fault(HostFault::Form)),
+            Some(Entry::Nothing) => Ok(()),
+            Some(Entry::Own { addr, mac }) => self.set_own(addr, mac),
+            Some(Entry::Gateway { mac }) => self.set_gateway(mac),
+            Some(Entry::Named { name, addr }) => self.add_host(alloc, name, addr),
+        }
+    }
+
+    fn fault(&self, fault: HostFault) -> HostsFault
+        ensures { result ≡ HostsFault.At self.now.lines fault }
+    {
+        HostsFault::At {
+            line: self.lines,
+            fault,
+        }
+    }
+
+    fn set_own(&mut self, addr: u32, mac: u64) -> Result<(), HostsFault>
+        ensures ok { OnOk result (with_entry self.old (Some (Own addr mac)) ≡ Ok self.new) }
+        ensures err { IfErr result (λ fault. Refuses fault (at_line self.old.lines (with_entry self.old (Some (Own addr mac))))) }
+    {
+        if self.own.is_some() {
+            return Err(self.fault(HostFault::Twice));
+        }
+        self.own = Some((addr, mac));
+        Ok(())
+    }
+
+    fn set_gateway(&mut self, mac: u64) -> Result<(), HostsFault>
+        ensures ok { OnOk result (with_entry self.old (Some (Gateway mac)) ≡ Ok self.new) }
+        ensures err { IfErr result (λ fault. Refuses fault (at_line self.old.lines (with_entry self.old (Some (Gateway mac))))) }
+    {
+        if self.gateway.is_some() {
+            return Err(self.fault(HostFault::Twice));
+        }
+        self.gateway = Some(mac);
+        Ok(())
+    }
+
+    fn add_host(&mut self, alloc: Global, name: &[u8], addr: u32) -> Result<(), HostsFault>
+        ensures ok { OnOk result (with_entry self.old (Some (Named name.now addr)) ≡ Ok self.new) }
+        ensures err { IfErr result (λ fault. Refuses fault (at_line self.old.lines (with_entry self.old (Some (Named name.now addr))))) }
+    {
+        if self.hosts.address(name).is_some() {
+            return Err(self.fault(HostFault::Twice));
+        }
+        if self.hosts.len() >= MOST_HOSTS {
+            return Err(self.fault(HostFault::Many));
+        }
+        self.hosts.push(alloc, name, addr)?;
+        Ok(())
+    }
+
+    fn finish(self) -> Result<Hosts, HostsFault>
+        requires { self.lines < 2 ^ 32 - 1 }
+        ensures { Reads result (table_of (Ok self)) }
+    {
+        let Told {
+            lines,
+            own,
+            gateway,
+            hosts,
+        } = self;
+        match (own, gateway) {
+            (Some((addr, mac)), Some(gateway)) => Ok(Hosts {
+                local: Local { addr, mac, gateway },
+                hosts,
+            }),
+            _ => Err(HostsFault::At {
+                line: lines + 1,
+                fault: HostFault::NoSelf,
+            }),
+        }
+    }
+}

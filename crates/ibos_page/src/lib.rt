@@ -1,0 +1,9 @@
+//! Tabs, and the page instances that live in them.
+#![tactic(auto)]
+
+mod tabs;
+
+pub use tabs::{Moved, Tabs};
+
+#[cfg(test)]
+mod tests;

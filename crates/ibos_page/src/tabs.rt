@@ -1,0 +1,255 @@
+// Tabs and their instances.
+ghost use Rattle.std.specs.Prelude.{◌≡◌, ◌<◌, ◌↔◌, ℕ, length, Some, None, Ok, Err, IfOk, OnOk, OnErr, IsOk, IsNone, is_some, ok_or, IfSome, bytes_eq, if◌then◌else◌};
+ghost use Rattle.ibos_page.specs.Tabs.{origin_with};
+ghost use Rattle.ibos_page.specs.Tabs as spec;
+
+use ibos_kinds::{Endpoint, Instance, Memory, Rule};
+use ibos_origin::Page;
+use std::alloc::Global;
+use std::marker::Model;
+
+const TABS: usize = 64;
+
+const INSTANCES: u8 = 32;
+
+// What stands in a tab: how many instances it has had, and the page of the live one.
+#[derive(Drop)]
+struct Seat {
+    count: u8,
+    page: Option<Page>,
+}
+
+/// What became of an instance that went to a page: it stays, within its origin, or it ended and the
+/// tab's next one started.
+#[derive(Clone, Copy, Debug, PartialEq, Eq)]
+pub enum Moved {
+    Same,
+    New(Instance),
+}
+
+/// The 64 tabs, their instances, and which tab is active. A tab has one live instance at a time, the
+/// newest, and at most 32 in all. No call but `new` takes memory.
+#[derive(Drop)]
+pub struct Tabs {
+    seats: Vec<Seat>,
+    active: Option<u8>,
+}
+
+impl Model for Tabs {
+    ghost use Rattle.std.specs.Prelude.{◌≡◌, vec_len};
+    ghost use Rattle.ibos_page.specs.Tabs.{TabTable, IsTable};
+
+    ghost Value = { TabTable };
+
+    ghost view = { λ t. record { seats = t.seats.items; active = t.active } };
+
+    ghost invariant = { λ t. (vec_len t.seats ≡ 64) × IsTable t.seats.items t.active };
+}
+
+impl Tabs {
+    ghost use Rattle.ibos_page.specs.Tabs.{empty_seat, seat_at, live_at, live_in, active_in, next_at, start_in, opened, moved, closed, with_seat, without, admission, admitted_by, go_in};
+
+    /// No tab has had an instance, and none is active. All the room is reserved here.
+    pub fn new(alloc: Global) -> Result<Tabs, Memory>
+        ensures seats { IfOk result (λ tabs. (tab : ℕ) → seat_at tabs tab ≡ empty_seat) }
+        ensures room { IfOk result (λ tabs. length tabs.seats ≡ 64) }
+        ensures active { IfOk result (λ tabs. tabs.active ≡ None) }
+    {
+        let mut seats = Vec::with_capacity(alloc, TABS)?;
+        'tabs: for _tab in 0..TABS {
+            seats.push(Seat {
+                count: 0,
+                page: None,
+            })?;
+        }
+        Ok(Tabs {
+            seats,
+            active: None,
+        })
+    }
+
+    /// The instance that would start in a tab, or why none would: U1 where one lives, U3 where there
+    /// have been 32.
+    pub fn may_start(&self, tab: u8) -> Result<Instance, Rule>
+        requires { tab < 64 }
+        ensures { result ≡ start_in self.now tab }
+    {
+        let seat = &self.seats[tab as usize];
+        if seat.page.is_some() {
+            return Err(Rule::U1);
+        }
+        if seat.count >= INSTANCES {
+            return Err(Rule::U3);
+        }
+        Ok(Instance {
+            tab,
+            ord: seat.count,
+        })
+    }
+
+    /// Starts the tab's next instance with a page, and makes the tab active.
+    pub fn start(&mut self, tab: u8, page: Page) -> Instance
+        requires tab { tab < 64 }
+        requires may { IsOk (start_in self.old tab) }
+        ensures who { result ≡ next_at self.old tab }
+        ensures table { self.new ≡ record (with_seat self.old tab (opened page (seat_at self.old tab))) { active = Some tab } }
+    {
+        let seat = &mut self.seats[tab as usize];
+        let who = Instance {
+            tab,
+            ord: seat.count,
+        };
+        seat.count += 1;
+        seat.page = Some(page);
+        self.active = Some(tab);
+        who
+    }
+
+    /// Makes a tab active. U2 exactly where it has no live instance.
+    pub fn switch(&mut self, tab: u8) -> Result<(), Rule>
+        requires { tab < 64 }
+        ensures answer { result ≡ (if is_some (seat_at self.old tab).page then Ok tt else Err Rule.U2) }
+        ensures ok { OnOk result (self.new ≡ record self.old { active = Some tab }) }
+        ensures err { OnErr result (self.new ≡ self.old) }
+    {
+        if self.seats[tab as usize].page.is_none() {
+            return Err(Rule::U2);
+        }
+        self.active = Some(tab);
+        Ok(())
+    }
+
+    /// Ends the tab's live instance, and answers it. U2 exactly where there is none. Closing the active
+    /// tab leaves none active.
+    pub fn close(&mut self, tab: u8) -> Result<Instance, Rule>
+        requires { tab < 64 }
+        ensures answer { result ≡ ok_or (live_at self.old tab) Rule.U2 }
+        ensures ok { OnOk result (self.new ≡ record (with_seat self.old tab (closed (seat_at self.old tab))) { active = without tab self.old.active }) }
+        ensures err { OnErr result (self.new ≡ self.old) }
+    {
+        let seat = &mut self.seats[tab as usize];
+        if seat.page.is_none() {
+            return Err(Rule::U2);
+        }
+        let who = Instance {
+            tab,
+            ord: seat.count - 1,
+        };
+        seat.page = None;
+        self.active = without(self.active, tab);
+        Ok(who)
+    }
+
+    /// A live instance goes to a page. Within its origin it stays and shows the page. To another origin
+    /// it ends, and the tab's next one starts there; U3 exactly where its ordinal is 31. The active tab
+    /// stays the same. A refused page is dropped.
+    pub fn go(&mut self, who: Instance, page: Page) -> Result<Moved, Rule>
+        requires { live_at self.old who.tab ≡ Some who }
+        ensures answer { result ≡ go_in who (origin_with (seat_at self.old who.tab).page) page }
+        ensures stays { result ≡ Ok Moved.Same → self.new ≡ with_seat self.old who.tab (moved page (seat_at self.old who.tab)) }
+        ensures leaves { (next : Instance) → result ≡ Ok (Moved.New next) → self.new ≡ with_seat self.old who.tab (opened page (seat_at self.old who.tab)) }
+        ensures err { OnErr result (self.new ≡ self.old) }
+    {
+        let seat = &mut self.seats[who.tab as usize];
+        if is_of_origin(&page, &seat.page) {
+            seat.page = Some(page);
+            return Ok(Moved::Same);
+        }
+        if who.ord >= INSTANCES - 1 {
+            return Err(Rule::U3);
+        }
+        let next = Instance {
+            tab: who.tab,
+            ord: who.ord + 1,
+        };
+        seat.count += 1;
+        seat.page = Some(page);
+        Ok(Moved::New(next))
+    }
+
+    /// Whether an instance lives: P1 where it never started, P2 where it has ended.
+    pub fn live(&self, who: Instance) -> Result<(), Rule>
+        ensures { result ≡ admitted_by (admission self.now who) }
+    {
+        let Some(seat) = self.seats.get(who.tab as usize) else {
+            return Err(Rule::P1);
+        };
+        if seat.page.is_some() && who.ord as u16 + 1 == seat.count as u16 {
+            return Ok(());
+        }
+        if who.ord < seat.count {
+            Err(Rule::P2)
+        } else {
+            Err(Rule::P1)
+        }
+    }
+
+    /// The live instance of the active tab. None exactly where no tab is active.
+    pub fn active(&self) -> Option<Instance>
+        ensures who { result ≡ active_in self.now }
+        ensures none { IsNone result ↔ (self.now.active ≡ None) }
+    {
+        let tab = self.active?;
+        let seat = &self.seats[tab as usize];
+        if seat.page.is_none() {
+            unreachable!();
+        }
+        Some(Instance {
+            tab,
+            ord: seat.count - 1,
+        })
+    }
+
+    /// The URL that a live instance shows.
+    pub fn url(&self, who: Instance) -> &[u8]
+        requires { live_at self.now who.tab ≡ Some who }
+        ensures { IfSome (seat_at self.now who.tab).page (λ page. result.now ≡ page.url) }
+    {
+        match &self.seats[who.tab as usize].page {
+            Some(page) => page.url(),
+            None => unreachable!(),
+        }
+    }
+
+    /// The origin of a live instance.
+    pub fn origin(&self, who: Instance) -> &[u8]
+        requires { live_at self.now who.tab ≡ Some who }
+        ensures { IfSome (seat_at self.now who.tab).page (λ page. result.now ≡ page.origin) }
+    {
+        match &self.seats[who.tab as usize].page {
+            Some(page) => page.origin(),
+            None => unreachable!(),
+        }
+    }
+
+    /// Where the frames of a live instance go: its host's address, and its URL's port.
+    pub fn endpoint(&self, who: Instance) -> Endpoint
+        requires { live_at self.now who.tab ≡ Some who }
+        ensures { IfSome (seat_at self.now who.tab).page (λ page. (result.addr ≡ page.addr) × (result.port ≡ page.port)) }
+    {
+        match &self.seats[who.tab as usize].page {
+            Some(page) => page.endpoint(),
+            None => unreachable!(),
+        }
+    }
+}
+
+// Whether a page is of the origin of what a tab shows.
+fn is_of_origin(page: &Page, shown: &Option<Page>) -> bool
+    ensures { result ≡ bytes_eq page.now.origin (origin_with shown.now) }
+{
+    match shown {
+        Some(shown) => page.origin() == shown.origin(),
+        None => page.origin().is_empty(),
+    }
+}
+
+// The active tab after a tab is closed.
+fn without(active: Option<u8>, tab: u8) -> Option<u8>
+    ensures { result ≡ spec.without tab active }
+{
+    match active {
+        Some(active) if active == tab => None,
+        other => other,
+    }
+}

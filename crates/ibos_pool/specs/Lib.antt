@@ -1,0 +1,5 @@
+pub mod Lending
+pub mod Memory
+pub mod Names
+pub mod Places
+pub mod Tables

@@ -1,0 +1,36 @@
+-- What a sink took, piece by piece.
+use Rattle.std.proofs.Common.{◌≡◌, ℕ, ◌+◌, List, ◌++◌, Option, Some, None, refl, sym, ◌∙◌, ap, take, drop, append_assoc, subst}
+use Rattle.std.specs.Prelude.{IfSome}
+use Rattle.std.proofs.Common.{◌≤◌, length, length-append, length-take-le}
+use Rattle.std.proofs.Math.Seq.{take-add}
+use Rattle.ibos_kinds.specs.Outside.{taken_after, ReadsFrom}
+
+pub taken_after-append : (before : Option (List ℕ)) (xs ys : List ℕ) → taken_after (taken_after before xs) ys ≡ taken_after before (xs ++ ys)
+taken_after-append None xs ys = refl
+taken_after-append (Some t) xs ys = ap Some (append_assoc t xs ys)
+
+-- the front, and then the next bytes
+pub taken_more : (first before now : Option (List ℕ)) (bytes : List ℕ) (at got : ℕ) → before ≡ taken_after first (take at bytes)
+    → now ≡ taken_after before (take got (drop at bytes)) → now ≡ taken_after first (take (at + got) bytes)
+taken_more first before now bytes at got so_far more =
+    more ∙ ap (λ t. taken_after t (take got (drop at bytes))) so_far
+    ∙ taken_after-append first (take at bytes) (take got (drop at bytes))
+    ∙ ap (taken_after first) (sym (take-add at got bytes))
+
+-- a piece joins the text that was read
+pub read_more : (text piece file : List ℕ) (got : ℕ) → text ≡ take (length text) file → got ≤ length piece → ReadsFrom file (length text) got piece
+    → text ++ take got piece ≡ take (length (text ++ take got piece)) file
+read_more text piece file got front within read =
+    let long : length (take got piece) ≡ got = length-take-le got piece within in
+    let all : length (text ++ take got piece) ≡ length text + got = length-append text (take got piece) ∙ ap (λ n. length text + n) long in
+    ap (λ t. t ++ take got piece) front ∙ ap (λ t. take (length text) file ++ t) read.front
+    ∙ sym (take-add (length text) got file) ∙ ap (λ n. take n file) (sym all)
+
+-- the same, where the cabinet may not tell the file
+pub read_more_told : (first now : Option (List ℕ)) (text after piece : List ℕ) (got : ℕ) → now ≡ first → after ≡ text ++ take got piece → got ≤ length piece
+    → IfSome first (λ file. text ≡ take (length text) file) → IfSome now (λ file. ReadsFrom file (length text) got piece)
+    → IfSome first (λ file. after ≡ take (length after) file)
+read_more_told None now text after piece got same is within front read = tt
+read_more_told (Some file) now text after piece got same is within front read =
+    let told : ReadsFrom file (length text) got piece = subst (λ (held : Option (List ℕ)). IfSome held (λ f. ReadsFrom f (length text) got piece)) same read in
+    rw is (read_more text piece file got front within told)

@@ -1,0 +1,43 @@
+-- How a run ends, and what cut it off.
+use Rattle.std.specs.Prelude.{◌≡◌, Option, Some, None}
+use Rattle.ibos_run.specs.declared.fault.Fault.{Fault}
+use Rattle.ibos_run.specs.declared.fault.Fault.TheVariants.{Read, Write, Memory}
+use Rattle.ibos_run.specs.declared.fault.Status.{Status}
+use Rattle.ibos_run.specs.declared.fault.Status.TheVariants.{Done, Usage, Refused, ReadFault, WriteFault, Memory as NoMemory}
+use Rattle.ibos_model.specs.Inputs.{Input, NoForm, NoHosts, Session, Refusal}
+
+-- a fault of reading comes only where P, a fault of writing only where Q; want of memory is free
+abbrev pub IsCaused : Fault → Type 0 → Type 0 → Type 0
+IsCaused Read P Q = P
+IsCaused Write P Q = Q
+IsCaused Memory P Q = Unit {0}
+
+abbrev pub status_of : Fault → Status
+status_of Read = ReadFault
+status_of Write = WriteFault
+status_of Memory = NoMemory
+
+-- the claim, where neither a fault of the cabinet or the sink nor want of memory ended the run
+abbrev pub OnWhole : Status → Type 0 → Type 0
+OnWhole Done P = P
+OnWhole Usage P = P
+OnWhole Refused P = P
+OnWhole ReadFault P = Unit {0}
+OnWhole WriteFault P = Unit {0}
+OnWhole NoMemory P = Unit {0}
+
+-- neither a read nor a write failed
+abbrev pub IsFaultless : Status → Type 0
+IsFaultless ReadFault = ⊥
+IsFaultless WriteFault = ⊥
+IsFaultless other = Unit {0}
+
+abbrev pub ending : Option Refusal → Status
+ending None = Done
+ending (Some refusal) = Refused
+
+-- the status that inputs are wanted to end with
+abbrev pub status_for : Input → Status
+status_for NoForm = Usage
+status_for (NoHosts refusal) = Refused
+status_for (Session H reading) = ending reading.refused

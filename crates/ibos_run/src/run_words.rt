@@ -1,0 +1,196 @@
+// The top call.
+ghost use Rattle.std.specs.Prelude.{◌≡◌, ◌⊎◌, ◌≤◌, ◌<◌, ◌+◌, ◌-◌, ◌^◌, [], codes, IsSome, IsSomeAnd, IfSome, IfOk, IfErr, OnOk, List, ℕ};
+ghost use Rattle.std.specs.Option.{option_map};
+ghost use Rattle.ibos_kinds.specs.Outside.{Rose, taken_after};
+ghost use Rattle.ibos_origin.specs.Reads.{Reads};
+ghost use Rattle.ibos_origin.specs.Tables.{hosts_in};
+ghost use Rattle.ibos_model.specs.Inputs.{IsIsolatedInput, form_in, host_refusal, input, input_with, refusal_line, session_in, table_in, wanted};
+ghost use Rattle.ibos_run.specs.Faults.{IsCaused, IsFaultless, OnWhole, status_for};
+ghost use Rattle.ibos_run.specs.Forms.{form_of};
+
+use crate::fault::{Fault, Status};
+use crate::gather::{hand_over, make_room};
+use crate::script::LIMIT;
+use crate::serving::serve;
+use crate::texts::{refusal, usage};
+use crate::transfer::{read_file, write_all};
+use ibos_kinds::{Bytes, Cabinet, Failed, Sink};
+use ibos_origin::{HostFault, Hosts, HostsFault};
+use std::alloc::Global;
+
+// The most that a host table may have, in bytes.
+const HOSTS_LIMIT: usize = 4_194_304;
+
+/// Runs the words of a command line: `run HOSTS SCRIPT`, with the names of a host table and a script.
+///
+/// The host table is read first, and the script where the table has no fault. Each line of the script that
+/// is an act is one step of a kernel, and the text of its outcome goes to the sink, numbered from 1. The
+/// last line is `end K` with the number of acts, or `refused FILE K N NAME` with the first fault: FILE is
+/// `hosts` or `script`, K the line, N and NAME the fault's number and name. Any other words are answered
+/// with the usage line, for which no memory is taken.
+pub fn run<C: Cabinet, K: Sink>(
+    alloc: Global,
+    words: &[Bytes],
+    cabinet: &mut C,
+    sink: &mut K,
+) -> Status
+    requires sink_count { K.faults sink.old < 2 ^ 64 - 1 }
+    requires file_counts { IfSome (form_in words.now) (λ form. (C.faults cabinet.old form.hosts < 2 ^ 64 - 1) × (C.faults cabinet.old form.script < 2 ^ 64 - 1)) }
+
+    // Where no fault and no want of memory ended the run, its status and its text are those of the inputs.
+    ensures status { OnWhole result (IfSome (input words.now (C.holds cabinet.old)) (λ i. result ≡ status_for i)) }
+    ensures text { OnWhole result (IfSome (input words.now (C.holds cabinet.old)) (λ i. K.taken sink.new ≡ taken_after (K.taken sink.old) (wanted i))) }
+
+    // In the journal of the inputs each instance is told what the facts that concern it give.
+    ensures isolation { IfSome (input words.now (C.holds cabinet.old)) IsIsolatedInput }
+
+    // Usage comes exactly where the words are no form, unless a write failed.
+    ensures usage { result ≡ Status.Usage → form_in words.now ≡ None }
+    ensures no_form { form_in words.now ≡ None → (result ≡ Status.Usage) ⊎ (result ≡ Status.WriteFault) }
+
+    // Each fault has its cause.
+    ensures read { result ≡ Status.ReadFault → IsSomeAnd (form_in words.now) (λ form.
+        Rose (C.faults cabinet.old form.hosts) (C.faults cabinet.new form.hosts) ⊎ Rose (C.faults cabinet.old form.script) (C.faults cabinet.new form.script)) }
+    ensures write { result ≡ Status.WriteFault → Rose (K.faults sink.old) (K.faults sink.new) }
+    ensures memory { result ≡ Status.Memory → IsSome (form_in words.now) }
+    ensures complete { K.faults sink.new ≡ K.faults sink.old
+        → IfSome (form_in words.now) (λ form. (C.faults cabinet.new form.hosts ≡ C.faults cabinet.old form.hosts) × (C.faults cabinet.new form.script ≡ C.faults cabinet.old form.script))
+        → IsFaultless result }
+{
+    match read_form(words) {
+        None => match write_all(sink, usage()) {
+            Ok(()) => Status::Usage,
+            Err(Failed::Failed) => Status::WriteFault,
+        },
+        Some(form) => match run_files(alloc, form.hosts, form.script, cabinet, sink) {
+            Ok(status) => status,
+            Err(fault) => fault.status(),
+        },
+    }
+}
+
+/// The files that words name.
+#[derive(Clone, Copy)]
+pub struct Form<'a> {
+    pub hosts: &'a Bytes,
+    pub script: &'a Bytes,
+}
+
+fn read_form(words: &[Bytes]) -> Option<Form<'_>>
+    ensures { option_map form_of result ≡ form_in words.now }
+{
+    match words {
+        [verb, hosts, script] if verb.as_slice() == b"run".as_slice() => {
+            Some(Form { hosts, script })
+        }
+        _ => None,
+    }
+}
+
+// What is gathered before want of memory is handed over too.
+fn run_files<C: Cabinet, K: Sink>(
+    alloc: Global,
+    hosts: &Bytes,
+    script: &Bytes,
+    cabinet: &mut C,
+    sink: &mut K,
+) -> Result<Status, Fault>
+    ensures told { IfOk result (λ status. IfSome (input_with (C.holds cabinet.old hosts.now) (C.holds cabinet.old script.now)) (λ i.
+        (status ≡ status_for i) × (K.taken sink.new ≡ taken_after (K.taken sink.old) (wanted i)))) }
+    ensures ends { IfOk result (λ status. (status ≡ Status.Done) ⊎ (status ≡ Status.Refused)) }
+    ensures cause { IfErr result (λ fault. IsCaused fault
+        (Rose (C.faults cabinet.old hosts.now) (C.faults cabinet.new hosts.now) ⊎ Rose (C.faults cabinet.old script.now) (C.faults cabinet.new script.now))
+        (Rose (K.faults sink.old) (K.faults sink.new))) }
+{
+    let mut text = make_room(alloc)?;
+    let result = gather(alloc, hosts, script, cabinet, &mut text, sink);
+    if let Err(Fault::Memory) = result {
+        hand_over(&mut text, sink)?;
+    }
+    result
+}
+
+fn gather<C: Cabinet, K: Sink>(
+    alloc: Global,
+    hosts: &Bytes,
+    script: &Bytes,
+    cabinet: &mut C,
+    text: &mut Bytes,
+    sink: &mut K,
+) -> Result<Status, Fault>
+    requires { text.old ≡ [] }
+    ensures told { IfOk result (λ status. IfSome (input_with (C.holds cabinet.old hosts.now) (C.holds cabinet.old script.now)) (λ i.
+        (status ≡ status_for i) × (K.taken sink.new ≡ taken_after (K.taken sink.old) (wanted i)))) }
+    ensures ends { IfOk result (λ status. (status ≡ Status.Done) ⊎ (status ≡ Status.Refused)) }
+    ensures later { K.faults sink.old ≤ K.faults sink.new }
+    ensures cause { IfErr result (λ fault. IsCaused fault
+        (Rose (C.faults cabinet.old hosts.now) (C.faults cabinet.new hosts.now) ⊎ Rose (C.faults cabinet.old script.now) (C.faults cabinet.new script.now))
+        (Rose (K.faults sink.old) (K.faults sink.new))) }
+{
+    match read_hosts(alloc, cabinet, hosts)? {
+        Ok(hosts) => gather_script(alloc, hosts, script, cabinet, text, sink),
+        Err(HostsFault::At { line, fault }) => refuse_hosts(alloc, line, fault, text, sink),
+        Err(HostsFault::Memory) => Err(Fault::Memory),
+    }
+}
+
+fn read_hosts<C: Cabinet>(
+    alloc: Global,
+    cabinet: &mut C,
+    name: &Bytes,
+) -> Result<Result<Hosts, HostsFault>, Fault>
+    ensures hosts { IfOk result (λ read. IfSome (C.holds cabinet.old name.now) (λ file. Reads read (hosts_in (table_in file)))) }
+    ensures holds { (name : List ℕ) → C.holds cabinet.new name ≡ C.holds cabinet.old name }
+    ensures later { (name : List ℕ) → C.faults cabinet.old name ≤ C.faults cabinet.new name }
+    ensures cause { IfErr result (λ fault. IsCaused fault (Rose (C.faults cabinet.old name.now) (C.faults cabinet.new name.now)) ⊥) }
+{
+    let table = read_file(alloc, cabinet, name, HOSTS_LIMIT)?;
+    let hosts = Hosts::read(alloc, table.as_slice());
+    Ok(hosts)
+}
+
+fn refuse_hosts<K: Sink>(
+    alloc: Global,
+    line: u32,
+    fault: HostFault,
+    text: &mut Bytes,
+    sink: &mut K,
+) -> Result<Status, Fault>
+    requires { text.old ≡ [] }
+    ensures status { IfOk result (λ status. status ≡ Status.Refused) }
+    ensures taken { OnOk result (K.taken sink.new ≡ taken_after (K.taken sink.old) (refusal_line (codes "hosts") (host_refusal (line, fault)))) }
+    ensures later { K.faults sink.old ≤ K.faults sink.new }
+    ensures cause { IfErr result (λ fault. IsCaused fault ⊥ (Rose (K.faults sink.old) (K.faults sink.new))) }
+{
+    let line = refusal(
+        alloc,
+        b"hosts",
+        line,
+        fault.number(),
+        fault.name().as_bytes(),
+    )?;
+    text.push_slice(line.as_slice())?;
+    hand_over(text, sink)?;
+    Ok(Status::Refused)
+}
+
+fn gather_script<C: Cabinet, K: Sink>(
+    alloc: Global,
+    hosts: Hosts,
+    name: &Bytes,
+    cabinet: &mut C,
+    text: &mut Bytes,
+    sink: &mut K,
+) -> Result<Status, Fault>
+    requires { text.old ≡ [] }
+    ensures told { IfOk result (λ status. IfSome (session_in hosts (C.holds cabinet.old name.now)) (λ i.
+        (status ≡ status_for i) × (K.taken sink.new ≡ taken_after (K.taken sink.old) (wanted i)))) }
+    ensures ends { IfOk result (λ status. (status ≡ Status.Done) ⊎ (status ≡ Status.Refused)) }
+    ensures files_later { (name : List ℕ) → C.faults cabinet.old name ≤ C.faults cabinet.new name }
+    ensures later { K.faults sink.old ≤ K.faults sink.new }
+    ensures cause { IfErr result (λ fault. IsCaused fault (Rose (C.faults cabinet.old name.now) (C.faults cabinet.new name.now)) (Rose (K.faults sink.old) (K.faults sink.new))) }
+{
+    let script = read_file(alloc, cabinet, name, LIMIT)?;
+    let status = serve(alloc, hosts, script.as_slice(), text, sink)?;
+    Ok(status)
+}

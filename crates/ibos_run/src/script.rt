@@ -1,0 +1,109 @@
+// A script, act by act.
+ghost use Rattle.std.specs.Prelude.{◌≡◌, ◌≤◌, ◌<◌, ◌+◌, ◌^◌, ◌&&◌, length, IfOk, MatchOption, if◌then◌else◌};
+ghost use Rattle.ibos_script.specs.Lines.{line_in};
+ghost use Rattle.ibos_origin.specs.Lines.{lines_of};
+ghost use Rattle.ibos_model.specs.Inputs.{Reading, is_last, reading_by, reading_from, reading_of, refused_by, too_long};
+
+use ibos_kinds::{Act, Memory};
+use ibos_origin::lines::next_line;
+use ibos_script::{Line, LineFault, read_line};
+use std::alloc::Global;
+use std::marker::Model;
+
+/// The most that a script may have, in bytes.
+pub const LIMIT: usize = 67_108_864;
+
+/// How a script ends: at its end, or at its first fault. Lines are counted from 1.
+#[derive(Clone, Copy)]
+pub enum End {
+    Whole,
+    /// The line holds the byte after the limit.
+    TooLong { line: u32 },
+    /// The line has a fault, which isn't want of memory.
+    Refused { line: u32, fault: LineFault },
+}
+
+/// What a script asks for next.
+#[derive(Drop)]
+pub enum Next {
+    Act(Act),
+    End(End),
+}
+
+/// What is left of a script.
+#[derive(Drop)]
+pub struct Script<'a> {
+    rest: &'a [u8],
+    lines: u32,
+    passes: bool,
+}
+
+impl<'a> Model for Script<'a> {
+    ghost Value = { Reading };
+
+    ghost view = { λ s. reading_from s.passes (s.lines + 1) (lines_of s.rest.now) };
+
+    ghost invariant = { λ s. s.lines + length s.rest.now < 2 ^ 31 };
+}
+
+impl<'a> Script<'a> {
+    ghost use Rattle.ibos_run.specs.Script.{Leads};
+
+    /// The whole of a script, of which the bytes up to the limit and one more are given.
+    #[tactic(auto, unfolding(ibos_model::specs::Inputs::reading_of))]
+    pub fn new(text: &'a [u8]) -> Script<'a>
+        requires { length text.now ≤ LIMIT + 1 }
+        ensures reading { result ≡ reading_of text.now }
+        ensures few { length result.acts ≤ length text.now }
+    {
+        Script {
+            rest: text,
+            lines: 0,
+            passes: text.len() > LIMIT,
+        }
+    }
+
+    /// Reads up to the next act, or to the end.
+    pub fn next(&mut self, alloc: Global) -> Result<Next, Memory>
+        ensures { IfOk result (λ next. Leads self.old next self.new) }
+    {
+        'lines: while let Some((line, after)) = next_line(self.rest) {
+            self.rest = after;
+            self.lines += 1;
+            let found = find_next(alloc, line, self.lines, is_past(self.passes, after))?;
+            if let Some(next) = found {
+                return Ok(next);
+            }
+        }
+        Ok(Next::End(End::Whole))
+    }
+}
+
+ghost use Rattle.ibos_run.specs.Script.{Leads};
+
+// Whether a line of a text that passes the limit, or doesn't, holds the byte after it: that is the last.
+fn is_past(passes: bool, after: &[u8]) -> bool
+    ensures { result ≡ (passes && is_last (lines_of after.now)) }
+{
+    passes && after.is_empty()
+}
+
+// What a line of that number asks for, if anything; `passes` is whether it holds the byte after the limit.
+fn find_next(alloc: Global, line: &[u8], number: u32, passes: bool) -> Result<Option<Next>, Memory>
+    ensures { IfOk result (λ found. (reading : Reading) →
+        let read = (if passes then refused_by (too_long number) else reading_by number (line_in line.now) reading)
+        in MatchOption found (read ≡ reading) (λ next. Leads read next reading)) }
+{
+    if passes {
+        return Ok(Some(Next::End(End::TooLong { line: number })));
+    }
+    match read_line(alloc, line) {
+        Ok(None) => Ok(None),
+        Ok(Some(Line::Act(act))) => Ok(Some(Next::Act(act))),
+        Err(LineFault::Memory) => Err(Memory),
+        Err(fault) => Ok(Some(Next::End(End::Refused {
+            line: number,
+            fault,
+        }))),
+    }
+}

@@ -1,0 +1,54 @@
+-- The text of an outcome: one line for its head and one for each item, each with the act's number.
+use Rattle.std.specs.Prelude.{◌≡◌, ℕ, List, [], ◌∷◌, ◌++◌, codes, decimal}
+use Rattle.std.specs.Borrow.{Bor}
+use Rattle.std.specs.List.{flat_map}
+use Rattle.ibos_kinds.specs.declared.names.Instance.{Instance}
+use Rattle.ibos_kinds.specs.declared.outcome.Head.{Head}
+use Rattle.ibos_kinds.specs.declared.outcome.Head.TheVariants.{Ok, Denied}
+use Rattle.ibos_kinds.specs.declared.outcome.Item.{Item}
+use Rattle.ibos_kinds.specs.declared.outcome.Item.TheVariants.{Opened, Moved, Ended, Cookies}
+use Rattle.ibos_kinds.specs.declared.outcome.Outcome.{Outcome}
+use Rattle.ibos_kinds.specs.Texts.{code_of, name_of}
+
+-- a line: the number, a space, what it says, and the line's end
+unfoldable pub line_text : List ℕ → List ℕ → List ℕ
+line_text number said = number ++ codes " " ++ said ++ codes "\n"
+
+-- `T.N`
+unfoldable pub instance_text : Instance → List ℕ
+instance_text who = decimal who.tab ++ codes "." ++ decimal who.ord
+
+unfoldable pub head_text : Head → List ℕ
+head_text Ok = codes "ok"
+head_text (Denied rule) = codes "denied " ++ code_of rule ++ codes " " ++ name_of rule
+
+-- a text, or `-` where it is empty
+unfoldable pub or_dash : List ℕ → List ℕ
+or_dash [] = codes "-"
+or_dash (b ∷ bytes) = b ∷ bytes
+
+-- whom an item is for, and what it tells
+unfoldable pub item_text : Item → List ℕ
+item_text (Opened who url) = instance_text who ++ codes " opened " ++ url
+item_text (Moved who url) = instance_text who ++ codes " at " ++ url
+item_text (Ended who) = instance_text who ++ codes " ended"
+item_text (Cookies who text) = instance_text who ++ codes " cookies " ++ or_dash text
+
+-- one line for each item
+abbrev pub items_text : List ℕ → List Item → List ℕ
+items_text number items = flat_map (λ item. line_text number (item_text item)) items
+
+-- one line for the head, and then those of the items
+unfoldable pub outcome_text : ℕ → Outcome → List ℕ
+outcome_text number outcome = line_text (decimal number) (head_text outcome.head) ++ items_text (decimal number) outcome.items
+
+-- pieces, one after another
+abbrev pub pieces_text : List (Bor (List ℕ)) → List ℕ
+pieces_text pieces = flat_map (λ piece. piece.now) pieces
+
+-- after want of memory: a front of the wanted text stands behind the old text
+pub record IsCutShort (old new wanted : List ℕ) : Type 0 where
+  pub front : List ℕ
+  pub rest : List ℕ
+  pub written : new ≡ old ++ front
+  pub whole : front ++ rest ≡ wanted

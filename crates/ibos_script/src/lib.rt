@@ -1,0 +1,15 @@
+//! The text of a session: the lines of a script, and the lines that an outcome prints.
+#![tactic(auto)]
+
+mod fault;
+mod fields;
+mod lines;
+mod printed;
+mod words;
+
+pub use fault::LineFault;
+pub use lines::{Line, read_line};
+pub use printed::write_outcome;
+
+#[cfg(test)]
+mod tests;
