@@ -1,6 +1,6 @@
 -- Datagrams: frames as they are joined from their parts, as Ethernet II, RFC 791 (3.1), RFC 9293 (3.1) and
 -- RFC 768 lay them out.
-use Rattle.std.specs.Prelude.{ℕ, ◌≡◌, ◌+◌, ◌-◌, ◌*◌, ◌/◌, ◌%◌, ◌^◌, ◌<◌, ◌≤◌, ◌==◌, ◌⊎◌, ◌↔◌, if◌then◌else◌, List, ◌∷◌, ◌++◌, length, take, drop, slice_index, All, None}
+use Rattle.std.specs.Prelude.{ℕ, ◌≡◌, ◌+◌, ◌-◌, ◌*◌, ◌%◌, ◌^◌, ◌<◌, ◌≤◌, ◌⊎◌, ◌↔◌, List, ◌∷◌, ◌++◌, length, take, drop, slice_index, All, None}
 use Rattle.std.specs.Int.{bytes_high_first}
 use Rattle.ibos_kinds.specs.declared.names.Dir.{Dir}
 use Rattle.ibos_kinds.specs.declared.names.Dir.TheVariants.{In, Out}

@@ -1,5 +1,5 @@
 -- What is built is a datagram of the parts that are wanted.
-use Rattle.std.proofs.Common.{◌≡◌, ℕ, zero, suc, ◌+◌, ◌-◌, ◌*◌, ◌/◌, ◌%◌, ◌^◌, ◌<◌, ◌≤◌, ◌==◌, ◌⊎◌, if◌then◌else◌, List, [], ◌∷◌, ◌++◌, length, refl, ap, sym, subst, ◌∙◌, inl, inr, arith}
+use Rattle.std.proofs.Common.{◌≡◌, ℕ, ◌+◌, ◌^◌, ◌<◌, ◌≤◌, List, [], ◌∷◌, ◌++◌, length, refl, ap, sym, subst, ◌∙◌, inl, inr, arith}
 use Rattle.std.proofs.lemmas.List.{append-nil}
 use Rattle.std.specs.Int.{bytes_high_first}
 use Rattle.ibos_kinds.specs.declared.names.Dir.{Dir}
@@ -8,12 +8,12 @@ use Rattle.ibos_kinds.specs.declared.names.Local.{Local}
 use Rattle.ibos_kinds.specs.declared.names.Endpoint.{Endpoint}
 use Rattle.ibos_kinds.specs.declared.names.Proto.{Proto}
 use Rattle.ibos_kinds.specs.declared.names.Proto.TheVariants.{Tcp, Udp}
-use Rattle.ibos_kinds.specs.Sums.{plain_sum, sum16}
+use Rattle.ibos_kinds.specs.Sums.{sum16}
 use Rattle.ibos_kinds.specs.Frames.{pseudo_header}
-use Rattle.ibos_kinds.specs.Datagrams.{IpHeader, TcpHeader, UdpHeader, OverTcp, OverUdp, Parts, ip_bytes, transport_bytes, segment_bytes, frame_bytes, FitsIp, IsIpHeader, used, segment_sum, IsTcpSegment, IsUdpSegment, IsSegment, Goes, Datagram}
+use Rattle.ibos_kinds.specs.Datagrams.{ip_bytes, transport_bytes, segment_bytes, frame_bytes, IsIpHeader, segment_sum, IsSegment, Goes, Datagram}
 use Rattle.ibos_make.specs.declared.building.FrameSpec.{FrameSpec}
-use Rattle.ibos_make.specs.Building.{protocol_number, header_len, ip_for, transport_for, parts_with, ip_checksum_for, written, checksum_for, parts_for, receiver, sender}
-use Rattle.ibos_make.proofs.Checksums.{IsChecksum, sum16-right, sum16-fits, written-is, written-fits}
+use Rattle.ibos_make.specs.Building.{protocol_number, header_len, ip_for, transport_for, parts_with, ip_checksum_for, checksum_for, parts_for, receiver, sender}
+use Rattle.ibos_make.proofs.Checksums.{sum16-right, sum16-fits, written-is, written-fits}
 
 -- the numbers of what a frame is to say have the bits of their types, and the payload its limit
 pub record FitsSpec (spec : FrameSpec) : Type 0 where

@@ -1,21 +1,20 @@
 -- A datagram of some parts breaks no rule, and its parts are those that are read.
-use Rattle.std.proofs.Common.{◌≡◌, ℕ, zero, suc, ◌+◌, ◌-◌, ◌*◌, ◌/◌, ◌%◌, ◌^◌, ◌<◌, ◌≤◌, ◌==◌, ◌⊎◌, true, List, [], ◌∷◌, ◌++◌, length, take, drop, slice_index, Option, Some, None, unwrap_or, refl, ap, sym, ◌∙◌, subst, inl, inr, arith, append_assoc, length-append, All}
+use Rattle.std.proofs.Common.{◌≡◌, ℕ, ◌+◌, ◌-◌, ◌*◌, ◌%◌, ◌^◌, ◌<◌, ◌≤◌, true, List, ◌∷◌, ◌++◌, length, take, drop, Some, None, unwrap_or, refl, ap, sym, ◌∙◌, subst, inl, inr, arith, append_assoc, length-append}
 use Rattle.std.proofs.Math.Seq.{take-append-add, drop-append-add}
-use Rattle.std.proofs.lemmas.List.{take_at, drop_at, append-nil, take_all}
+use Rattle.std.proofs.lemmas.List.{drop_at, append-nil}
 use Rattle.std.proofs.lemmas.Bool.Decides.{nat_tests}
 use Rattle.std.specs.Int.{bytes_high_first}
-use Rattle.std.specs.Option.{option_or}
 use Rattle.ibos_kinds.specs.declared.names.Dir.{Dir}
 use Rattle.ibos_kinds.specs.declared.names.Dir.TheVariants.{In, Out}
 use Rattle.ibos_kinds.specs.declared.names.Local.{Local}
 use Rattle.ibos_kinds.specs.declared.names.Proto.{Proto}
 use Rattle.ibos_kinds.specs.declared.names.Proto.TheVariants.{Tcp, Udp}
 use Rattle.ibos_kinds.specs.Sums.{sum16}
-use Rattle.ibos_kinds.specs.Frames.{number, eth_dest, eth_source, eth_type, eth_payload, ip_version, ip_words, ip_total, ip_fragment, ip_protocol, ip_src, ip_dst, ip_header, ip_payload, ip_tail, proto_of, proto_in, seg_src_port, seg_dst_port, seg_payload, seg_len, tcp_words, udp_len, udp_checksum, pseudo_header, is_equal_out, first_broken, heading_between, heading_of}
-use Rattle.ibos_kinds.specs.Datagrams.{IpHeader, TcpHeader, UdpHeader, Transport, OverTcp, OverUdp, Parts, ip_bytes, transport_bytes, segment_bytes, frame_bytes, FitsIp, FitsTcp, FitsUdp, IsIpHeader, used, segment_sum, IsTcpSegment, IsUdpSegment, IsSegment, ComesIn, GoesOut, Goes, Datagram, ip_at, transport_at, parts_at, parts_of, proto_over, parts_heading}
+use Rattle.ibos_kinds.specs.Frames.{eth_dest, eth_source, eth_payload, ip_words, ip_total, ip_protocol, ip_src, ip_dst, ip_payload, ip_tail, proto_of, proto_in, seg_src_port, seg_dst_port, seg_payload, seg_len, tcp_words, udp_len, pseudo_header, is_equal_out, first_broken, heading_between, heading_of}
+use Rattle.ibos_kinds.specs.Datagrams.{IpHeader, TcpHeader, UdpHeader, Transport, OverTcp, OverUdp, Parts, ip_bytes, segment_bytes, frame_bytes, IsIpHeader, used, segment_sum, IsTcpSegment, IsUdpSegment, IsSegment, Goes, Datagram, transport_at, parts_at, parts_of, proto_over, parts_heading}
 use Rattle.ibos_make.proofs.Numbers.{number-bytes}
-use Rattle.ibos_make.proofs.Rules.{IsEthAt, IsIpAt, IsTcpAt, IsUdpAt, IsSegmentAt, AreMacs, AreAddrs, IsTail, IsKept, IsFrameKept, none_first}
-use Rattle.ibos_make.proofs.Reading.{ip_at-bytes, IsIpRead, ip-bytes, IsSegmentRead, tcp-bytes, udp-bytes}
+use Rattle.ibos_make.proofs.Rules.{IsEthAt, IsSegmentAt, AreMacs, AreAddrs, IsTail, IsKept, IsFrameKept, none_first}
+use Rattle.ibos_make.proofs.Reading.{ip_at-bytes, ip-bytes, IsSegmentRead, tcp-bytes, udp-bytes}
 
 -- what Ethernet carries
 abbrev pub body : Parts → List ℕ

@@ -1,12 +1,11 @@
 -- Parts that are joined are read again at their places.
-use Rattle.std.proofs.Common.{◌≡◌, ℕ, zero, suc, ◌+◌, ◌-◌, ◌*◌, ◌/◌, ◌%◌, ◌^◌, ◌<◌, ◌≤◌, ◌⊎◌, List, [], ◌∷◌, ◌++◌, length, take, drop, slice_index, refl, ap, sym, ◌∙◌, subst, inl, inr, arith, append_assoc, length-append}
-use Rattle.std.proofs.lemmas.List.{take_at, drop_at, append-nil}
+use Rattle.std.proofs.Common.{◌≡◌, ℕ, ◌+◌, ◌-◌, ◌*◌, ◌/◌, ◌%◌, ◌^◌, ◌<◌, List, ◌++◌, length, take, drop, refl, ap, sym, ◌∙◌, arith, length-append}
+use Rattle.std.proofs.lemmas.List.{take_at, drop_at}
 use Rattle.std.specs.Int.{bytes_high_first}
 use Rattle.ibos_kinds.specs.declared.names.Proto.{Proto}
 use Rattle.ibos_kinds.specs.declared.names.Proto.TheVariants.{Tcp, Udp}
-use Rattle.ibos_kinds.specs.Sums.{sum16}
-use Rattle.ibos_kinds.specs.Frames.{number, ip_version, ip_words, ip_total, ip_fragment, ip_protocol, ip_src, ip_dst, ip_header, ip_payload, ip_tail, seg_src_port, seg_dst_port, seg_payload, seg_len, tcp_words, udp_len, udp_checksum, pseudo_header}
-use Rattle.ibos_kinds.specs.Datagrams.{IpHeader, TcpHeader, UdpHeader, Transport, OverTcp, OverUdp, ip_bytes, transport_bytes, FitsIp, FitsTcp, FitsUdp, IsIpHeader, ip_at, transport_at}
+use Rattle.ibos_kinds.specs.Frames.{ip_version, ip_words, ip_total, ip_fragment, ip_protocol, ip_src, ip_dst, ip_header, seg_src_port, seg_dst_port, seg_payload, seg_len}
+use Rattle.ibos_kinds.specs.Datagrams.{IpHeader, TcpHeader, UdpHeader, Transport, OverTcp, OverUdp, ip_bytes, transport_bytes, FitsTcp, FitsUdp, IsIpHeader, ip_at, transport_at}
 use Rattle.ibos_make.proofs.Numbers.{number-bytes}
 
 -- an IPv4 header is read from its bytes, whatever follows

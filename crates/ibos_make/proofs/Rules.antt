@@ -1,5 +1,5 @@
 -- What it means that no rule is broken, layer by layer.
-use Rattle.std.proofs.Common.{◌≡◌, ◌≢◌, ℕ, zero, suc, ◌+◌, ◌-◌, ◌*◌, ◌/◌, ◌%◌, ◌^◌, ◌<◌, ◌≤◌, ◌==◌, ◌&&◌, ◌||◌, ◌⊎◌, nat_lt, nat_le, Bool, true, false, not, cond, List, [], ◌∷◌, ◌++◌, length, take, drop, get_or, slice_index, Option, Some, None, refl, ap, sym, ◌∙◌, arith, inl, inr, All}
+use Rattle.std.proofs.Common.{◌≡◌, ◌≢◌, ℕ, zero, suc, ◌*◌, ◌%◌, ◌<◌, ◌≤◌, ◌==◌, ◌&&◌, ◌⊎◌, nat_le, Bool, true, false, not, cond, List, [], ◌∷◌, ◌++◌, length, take, get_or, Option, Some, None, refl, ap, sym, ◌∙◌, arith, inl, inr, All}
 use Rattle.std.proofs.lemmas.Bool.Decides.{nat_tests}
 use Rattle.std.proofs.lemmas.Bool.{and_parts}
 use Rattle.std.specs.List.{list_all}
@@ -9,8 +9,7 @@ use Rattle.ibos_kinds.specs.declared.names.Proto.TheVariants.{Tcp, Udp}
 use Rattle.ibos_kinds.specs.declared.names.Dir.{Dir}
 use Rattle.ibos_kinds.specs.declared.names.Dir.TheVariants.{In, Out}
 use Rattle.ibos_kinds.specs.declared.names.Local.{Local}
-use Rattle.ibos_kinds.specs.declared.rule.Rule.{Rule}
-use Rattle.ibos_kinds.specs.declared.rule.Rule.TheVariants.{F1, F2, F3, F4, F5, F6, F7, F8, F9, F10, F11, F15}
+use Rattle.ibos_kinds.specs.declared.rule.Rule.TheVariants.{F3, F4, F5, F6, F7, F8, F10, F11, F15}
 use Rattle.ibos_kinds.specs.Sums.{sum16}
 use Rattle.ibos_kinds.specs.Frames.{eth_dest, eth_source, eth_type, eth_payload, ip_version, ip_words, ip_total, ip_fragment, ip_protocol, ip_src, ip_dst, ip_header, ip_payload, ip_tail, is_equal_out, eth_broken, mac_broken, is_ip_form, ip_broken, addr_broken, tcp_words, udp_len, udp_checksum, pseudo_header, proto_of, is_seg_form, is_seg_sum, seg_broken_over, seg_broken, tail_broken, first_broken}
 

@@ -1,6 +1,6 @@
 -- A frame that breaks no rule is joined of the parts that are read from it.
-use Rattle.std.proofs.Common.{◌≡◌, ℕ, zero, suc, ◌+◌, ◌-◌, ◌*◌, ◌/◌, ◌%◌, ◌^◌, ◌<◌, ◌≤◌, ◌==◌, ◌⊎◌, true, List, [], ◌∷◌, ◌++◌, length, take, drop, slice_index, Option, Some, None, unwrap_or, refl, ap, sym, ◌∙◌, subst, inl, inr, arith, append_assoc, length-append, All}
-use Rattle.std.proofs.lemmas.List.{take_at, drop_at, take_all, take-append-drop, drop-drop, take-take, length-take-le, length-drop}
+use Rattle.std.proofs.Common.{◌≡◌, ℕ, ◌+◌, ◌-◌, ◌*◌, ◌%◌, ◌<◌, ◌≤◌, List, ◌∷◌, ◌++◌, length, take, drop, slice_index, Some, None, unwrap_or, refl, ap, sym, ◌∙◌, subst, inl, inr, arith, append_assoc, length-append}
+use Rattle.std.proofs.lemmas.List.{take_at, take_all, take-append-drop, drop-drop, take-take, length-take-le, length-drop}
 use Rattle.std.proofs.Math.Seq.{take-append-add}
 use Rattle.std.proofs.lemmas.Bool.Decides.{nat_tests}
 use Rattle.std.specs.Int.{bytes_high_first}
@@ -10,10 +10,10 @@ use Rattle.ibos_kinds.specs.declared.names.Local.{Local}
 use Rattle.ibos_kinds.specs.declared.names.Proto.{Proto}
 use Rattle.ibos_kinds.specs.declared.names.Proto.TheVariants.{Tcp, Udp}
 use Rattle.ibos_kinds.specs.Sums.{sum16}
-use Rattle.ibos_kinds.specs.Frames.{IsBytes, number, eth_dest, eth_source, eth_type, eth_payload, ip_version, ip_words, ip_total, ip_fragment, ip_protocol, ip_src, ip_dst, ip_header, ip_payload, ip_tail, proto_of, proto_in, seg_src_port, seg_dst_port, seg_payload, seg_len, tcp_words, udp_len, udp_checksum, pseudo_header, is_equal_out, first_broken}
-use Rattle.ibos_kinds.specs.Datagrams.{IpHeader, TcpHeader, UdpHeader, Transport, OverTcp, OverUdp, Parts, ip_bytes, transport_bytes, segment_bytes, frame_bytes, FitsIp, FitsTcp, FitsUdp, IsIpHeader, used, segment_sum, IsTcpSegment, IsUdpSegment, IsSegment, ComesIn, GoesOut, Goes, Datagram, ip_at, transport_at, parts_at, parts_of}
+use Rattle.ibos_kinds.specs.Frames.{IsBytes, number, eth_dest, eth_source, eth_payload, ip_words, ip_total, ip_protocol, ip_src, ip_dst, ip_header, ip_payload, ip_tail, proto_of, proto_in, seg_src_port, seg_dst_port, seg_payload, seg_len, tcp_words, udp_len, pseudo_header, first_broken}
+use Rattle.ibos_kinds.specs.Datagrams.{Parts, ip_bytes, segment_bytes, IsIpHeader, segment_sum, IsSegment, Goes, Datagram, ip_at, transport_at, parts_of}
 use Rattle.ibos_make.proofs.Numbers.{number-lt, IsBytes-drop, IsBytes-take, drop-number, drop-byte}
-use Rattle.ibos_make.proofs.Rules.{IsEthAt, IsIpAt, IsTcpAt, IsUdpAt, IsSegmentAt, AreMacs, AreAddrs, IsTail, IsKept, IsFrameKept, first_none}
+use Rattle.ibos_make.proofs.Rules.{IsEthAt, IsIpAt, IsTcpAt, IsSegmentAt, AreMacs, AreAddrs, IsTail, IsFrameKept, first_none}
 use Rattle.ibos_make.proofs.Reading.{header_bytes}
 use Rattle.ibos_make.proofs.Joined.{body, frame_bytes-body}
 

@@ -131,6 +131,8 @@ fn ip_header(spec: &FrameSpec, checksum: u16) -> [u8; 20]
     let [x, y] = checksum.to_be_bytes();
     let [a, b, c, d, e, f, g, h] = addrs(spec.src, spec.dst);
     let protocol = protocol_number(spec.proto);
+    // Version and IHL, type of service, total length, identification, flags and offset, time to live,
+    // protocol, checksum, addresses.
     [
         0x45, 0, t, u, 0, 0, 0x40, 0, 64, protocol, x, y, a, b, c, d, e, f, g, h,
     ]
@@ -144,6 +146,7 @@ fn tcp_header(spec: &FrameSpec, checksum: u16) -> [u8; 20]
 {
     let [a, b, c, d] = ports(spec.src, spec.dst);
     let [x, y] = checksum.to_be_bytes();
+    // Ports, sequence, acknowledgement, data offset, flags, window, checksum, urgent pointer.
     [
         a, b, c, d, 0, 0, 0, 1, 0, 0, 0, 1, 0x50, 0x18, 0x20, 0x00, x, y, 0, 0,
     ]

@@ -1,4 +1,4 @@
-use Rattle.std.proofs.Common.{◌≡◌, ℕ, ◌+◌, ◌≤◌, refl, ap, sym, ◌∙◌, arith}
+use Rattle.std.proofs.Common.{◌≡◌, ℕ, ◌+◌, refl, ap, ◌∙◌, arith}
 use Rattle.ibos_kinds.specs.Sums.{plain_sum, carried, sum_words}
 use Rattle.ibos_kinds.proofs.WordSums.{plain_sum-split, carried-add, carried-le, sum_words-append}
 use Rattle.ibos_kinds.proofs.sums.sum_words.Goals as goal

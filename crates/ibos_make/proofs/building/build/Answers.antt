@@ -1,6 +1,6 @@
-use Rattle.std.proofs.Common.{◌≡◌, ℕ, ap, sym, ◌∙◌, subst}
+use Rattle.std.proofs.Common.{ℕ}
 use Rattle.ibos_kinds.specs.declared.names.Dir.TheVariants.{In, Out}
-use Rattle.ibos_kinds.specs.Datagrams.{frame_bytes, Datagram}
+use Rattle.ibos_kinds.specs.Datagrams.{Datagram}
 use Rattle.ibos_make.specs.Building.{parts_for, receiver, sender}
 use Rattle.ibos_make.proofs.Built.{FitsSpec, built_in, built_out}
 use Rattle.ibos_make.proofs.Joined.{none_broken}

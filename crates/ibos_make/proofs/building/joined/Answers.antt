@@ -1,5 +1,4 @@
-use Rattle.std.proofs.Common.{◌≡◌, ℕ, List, [], ◌++◌, refl, ap, sym, ◌∙◌}
-use Rattle.std.specs.Int.{bytes_high_first}
+use Rattle.std.proofs.Common.{◌≡◌, ℕ, List, [], ◌++◌, ap, ◌∙◌}
 use Rattle.ibos_kinds.specs.Sums.{sum16}
 use Rattle.ibos_kinds.specs.Datagrams.{ip_bytes}
 use Rattle.ibos_make.specs.Building.{ip_for, ip_checksum_for}

@@ -1,6 +1,6 @@
-use Rattle.std.proofs.Common.{◌≡◌, ℕ, List, ap, sym, ◌∙◌}
+use Rattle.std.proofs.Common.{◌≡◌, ap, sym, ◌∙◌}
 use Rattle.std.proofs.lemmas.Result.{IfOk-weaker}
-use Rattle.ibos_kinds.specs.declared.names.Proto.TheVariants.{Tcp, Udp}
+use Rattle.ibos_kinds.specs.declared.names.Proto.TheVariants.{Udp}
 use Rattle.ibos_kinds.specs.Datagrams.{segment_sum, frame_bytes}
 use Rattle.ibos_make.specs.Building.{protocol_number, parts_with, written, checksum_for, parts_for}
 use Rattle.ibos_make.proofs.Built.{checksum-blank, frame-layout}
