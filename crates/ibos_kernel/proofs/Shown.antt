@@ -4,7 +4,7 @@ use Rattle.std.specs.Prelude.{option_map, unwrap_or, slice_set, bytes_eq, nat_lt
 use Rattle.std.proofs.lemmas.Bool.Decides.{nat_tests}
 use Rattle.ibos_kinds.specs.declared.names.Instance.{Instance}
 use Rattle.ibos_origin.specs.Pages.{Page}
-use Rattle.ibos_page.specs.declared.tabs.Seat.{Seat}
+use Rattle.ibos_page.specs.Seats.{Seat}
 use Rattle.ibos_page.specs.Tabs.{TabTable, seat_at, live_at, live_in, is_live_in, empty_seat, opened, moved, closed, with_seat, origin_with}
 use Rattle.ibos_page.proofs.Seats.{seat-set}
 use Rattle.ibos_model.specs.Journal.{same}

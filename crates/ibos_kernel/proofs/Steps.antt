@@ -15,7 +15,7 @@ use Rattle.ibos_kinds.specs.declared.outcome.Outcome.{Outcome}
 use Rattle.ibos_kinds.specs.Limits.{Fits}
 use Rattle.ibos_origin.specs.Hosts.{HostTable}
 use Rattle.ibos_origin.specs.Pages.{Page, allowed}
-use Rattle.ibos_page.specs.declared.tabs.Seat.{Seat}
+use Rattle.ibos_page.specs.Seats.{Seat}
 use Rattle.ibos_page.specs.Tabs.{TabTable, seat_at, live_at, next_at, is_live_in, admission, admission_in, empty_seat, opened, moved, closed, with_seat, live_in, origin_with}
 use Rattle.ibos_cookie.specs.Jars.{OriginJar, jar_of}
 use Rattle.ibos_model.specs.Journal.{Journal, is_ok, is_accepted}

@@ -4,7 +4,7 @@ use Rattle.ibos_kinds.specs.declared.names.Instance.{Instance}
 use Rattle.ibos_kinds.specs.declared.act.Act.{Act}
 use Rattle.ibos_kinds.specs.declared.outcome.Outcome.{Outcome}
 use Rattle.ibos_origin.specs.Pages.{Page}
-use Rattle.ibos_page.specs.declared.tabs.Seat.{Seat}
+use Rattle.ibos_page.specs.Seats.{Seat}
 use Rattle.ibos_page.specs.Tabs.{TabTable, seat_at, live_at, is_live_in}
 use Rattle.ibos_cookie.specs.Jars.{jar_of}
 use Rattle.ibos_model.specs.Journal.{Journal, Entry}

@@ -6,7 +6,7 @@ use Rattle.std.proofs.lemmas.List.{get_or-set_same, get_or-set_other, get_or_rea
 use Rattle.std.proofs.Math.ListN.{get_or-eq_default}
 use Rattle.ibos_kinds.specs.declared.names.Instance.{Instance}
 use Rattle.ibos_origin.specs.Pages.{Page}
-use Rattle.ibos_page.specs.declared.tabs.Seat.{Seat}
+use Rattle.ibos_page.specs.Seats.{Seat}
 use Rattle.ibos_page.specs.Tabs.{IsSeat, IsTable, live_in, empty_seat, without}
 
 ord_of : (page : Option Page) (tab ord : ℕ) (who : Instance) → option_map (λ (x : Page). record { tab = tab; ord = ord }) page ≡ Some who → (page ≢ None) × (who.ord ≡ ord)
@@ -29,13 +29,6 @@ seat-set seats i tab seat within = by_test (tab == i) refl
     by_test : (here : Bool) → (tab == i) ≡ here → get_or (slice_set seats i seat) tab empty_seat ≡ (if here then seat else get_or seats tab empty_seat)
     by_test true here = let same : tab ≡ i = grind (arith, nat_tests) in rw same (get_or-set_same seats i seat empty_seat within)
     by_test false other = let differs : tab ≢ i = λ e. grind (arith, nat_tests, e) in get_or-set_other seats i tab seat empty_seat differs
-
--- what the code reads in a tab
-pub seat_read : (seats : List Seat) (active : Option ℕ) (tab : ℕ) (seat : Seat) → IsTable seats active → tab < 64 → seat ≡ get_or seats tab seat → seat ≡ get_or seats tab empty_seat
-seat_read seats active tab seat is within read = get_or_read seats tab seat (omega (arith, is.count)) read empty_seat
-
-pub seat_good : (seats : List Seat) (active : Option ℕ) (tab : ℕ) (seat : Seat) → IsTable seats active → tab < 64 → seat ≡ get_or seats tab seat → IsSeat seat
-seat_good seats active tab seat is within read = subst IsSeat (sym (seat_read seats active tab seat is within read)) (is.each tab)
 
 -- a tab with a live instance is one of the 64
 pub live_within : (seats : List Seat) (active : Option ℕ) (tab : ℕ) (who : Instance) → IsTable seats active → live_in tab (get_or seats tab empty_seat) ≡ Some who → tab < 64
@@ -102,10 +95,3 @@ without-some tab (Some active) other is = by_test (active == tab) refl is
     by_test false differs h =
         let e : active ≡ other = ap (λ o. unwrap_or o active) h in
         (h, λ same. grind (arith, nat_tests, e, same))
-
--- the seat of a live instance, as the code reads it
-pub live_read : (seats : List Seat) (active : Option ℕ) (who : Instance) (seat : Seat) → IsTable seats active → who.tab < 64
-    → live_in who.tab (get_or seats who.tab empty_seat) ≡ Some who → seat ≡ get_or seats who.tab seat → who.ord + 1 ≡ seat.count
-live_read seats active who seat is within lives read =
-    let P : Seat → Type 0 = λ s. live_in who.tab s ≡ Some who in
-    live_newest who.tab seat who (seat_good seats active who.tab seat is within read) (subst P (sym (seat_read seats active who.tab seat is within read)) lives)

@@ -1,23 +1,15 @@
 // Tabs and their instances.
-ghost use Rattle.std.specs.Prelude.{◌≡◌, ◌<◌, ◌↔◌, ℕ, length, Some, None, Ok, Err, IfOk, OnOk, OnErr, IsOk, IsNone, is_some, ok_or, IfSome, bytes_eq, if◌then◌else◌};
+ghost use Rattle.std.specs.Prelude.{◌≡◌, ◌<◌, ◌↔◌, ℕ, length, Some, None, Ok, Err, IfOk, OnOk, OnErr, IsOk, IsNone, is_some, ok_or, IfSome, if◌then◌else◌};
 ghost use Rattle.ibos_page.specs.Tabs.{origin_with};
 ghost use Rattle.ibos_page.specs.Tabs as spec;
 
+use crate::pages::Pages;
 use ibos_kinds::{Endpoint, Instance, Memory, Rule};
 use ibos_origin::Page;
 use std::alloc::Global;
 use std::marker::Model;
 
-const TABS: usize = 64;
-
 const INSTANCES: u8 = 32;
-
-// What stands in a tab: how many instances it has had, and the page of the live one.
-#[derive(Drop)]
-struct Seat {
-    count: u8,
-    page: Option<Page>,
-}
 
 /// What became of an instance that went to a page: it stays, within its origin, or it ended and the
 /// tab's next one started.
@@ -31,19 +23,18 @@ pub enum Moved {
 /// newest, and at most 32 in all. No call but `new` takes memory.
 #[derive(Drop)]
 pub struct Tabs {
-    seats: Vec<Seat>,
+    pages: Pages,
     active: Option<u8>,
 }
 
 impl Model for Tabs {
-    ghost use Rattle.std.specs.Prelude.{◌≡◌, vec_len};
     ghost use Rattle.ibos_page.specs.Tabs.{TabTable, IsTable};
 
     ghost Value = { TabTable };
 
-    ghost view = { λ t. record { seats = t.seats.items; active = t.active } };
+    ghost view = { λ t. record { seats = t.pages; active = t.active } };
 
-    ghost invariant = { λ t. (vec_len t.seats ≡ 64) × IsTable t.seats.items t.active };
+    ghost invariant = { λ t. IsTable t.pages t.active };
 }
 
 impl Tabs {
@@ -55,15 +46,8 @@ impl Tabs {
         ensures room { IfOk result (λ tabs. length tabs.seats ≡ 64) }
         ensures active { IfOk result (λ tabs. tabs.active ≡ None) }
     {
-        let mut seats = Vec::with_capacity(alloc, TABS)?;
-        'tabs: for _tab in 0..TABS {
-            seats.push(Seat {
-                count: 0,
-                page: None,
-            })?;
-        }
         Ok(Tabs {
-            seats,
+            pages: Pages::new(alloc)?,
             active: None,
         })
     }
@@ -74,17 +58,14 @@ impl Tabs {
         requires { tab < 64 }
         ensures { result ≡ start_in self.now tab }
     {
-        let seat = &self.seats[tab as usize];
-        if seat.page.is_some() {
+        if self.pages.is_live(tab) {
             return Err(Rule::U1);
         }
-        if seat.count >= INSTANCES {
+        let count = self.pages.count(tab);
+        if count >= INSTANCES {
             return Err(Rule::U3);
         }
-        Ok(Instance {
-            tab,
-            ord: seat.count,
-        })
+        Ok(Instance { tab, ord: count })
     }
 
     /// Starts the tab's next instance with a page, and makes the tab active.
@@ -94,13 +75,11 @@ impl Tabs {
         ensures who { result ≡ next_at self.old tab }
         ensures table { self.new ≡ record (with_seat self.old tab (opened page (seat_at self.old tab))) { active = Some tab } }
     {
-        let seat = &mut self.seats[tab as usize];
         let who = Instance {
             tab,
-            ord: seat.count,
+            ord: self.pages.count(tab),
         };
-        seat.count += 1;
-        seat.page = Some(page);
+        self.pages.open(tab, page);
         self.active = Some(tab);
         who
     }
@@ -112,7 +91,7 @@ impl Tabs {
         ensures ok { OnOk result (self.new ≡ record self.old { active = Some tab }) }
         ensures err { OnErr result (self.new ≡ self.old) }
     {
-        if self.seats[tab as usize].page.is_none() {
+        if !self.pages.is_live(tab) {
             return Err(Rule::U2);
         }
         self.active = Some(tab);
@@ -127,15 +106,14 @@ impl Tabs {
         ensures ok { OnOk result (self.new ≡ record (with_seat self.old tab (closed (seat_at self.old tab))) { active = without tab self.old.active }) }
         ensures err { OnErr result (self.new ≡ self.old) }
     {
-        let seat = &mut self.seats[tab as usize];
-        if seat.page.is_none() {
+        if !self.pages.is_live(tab) {
             return Err(Rule::U2);
         }
         let who = Instance {
             tab,
-            ord: seat.count - 1,
+            ord: self.pages.count(tab) - 1,
         };
-        seat.page = None;
+        self.pages.end(tab);
         self.active = without(self.active, tab);
         Ok(who)
     }
@@ -150,9 +128,8 @@ impl Tabs {
         ensures leaves { (next : Instance) → result ≡ Ok (Moved.New next) → self.new ≡ with_seat self.old who.tab (opened page (seat_at self.old who.tab)) }
         ensures err { OnErr result (self.new ≡ self.old) }
     {
-        let seat = &mut self.seats[who.tab as usize];
-        if is_of_origin(&page, &seat.page) {
-            seat.page = Some(page);
+        if self.pages.is_of_origin(who.tab, &page) {
+            self.pages.show(who.tab, page);
             return Ok(Moved::Same);
         }
         if who.ord >= INSTANCES - 1 {
@@ -162,8 +139,7 @@ impl Tabs {
             tab: who.tab,
             ord: who.ord + 1,
         };
-        seat.count += 1;
-        seat.page = Some(page);
+        self.pages.open(who.tab, page);
         Ok(Moved::New(next))
     }
 
@@ -171,13 +147,14 @@ impl Tabs {
     pub fn live(&self, who: Instance) -> Result<(), Rule>
         ensures { result ≡ admitted_by (admission self.now who) }
     {
-        let Some(seat) = self.seats.get(who.tab as usize) else {
+        if who.tab as usize >= self.pages.len() {
             return Err(Rule::P1);
-        };
-        if seat.page.is_some() && who.ord as u16 + 1 == seat.count as u16 {
+        }
+        let count = self.pages.count(who.tab);
+        if self.pages.is_live(who.tab) && who.ord as u16 + 1 == count as u16 {
             return Ok(());
         }
-        if who.ord < seat.count {
+        if who.ord < count {
             Err(Rule::P2)
         } else {
             Err(Rule::P1)
@@ -190,13 +167,9 @@ impl Tabs {
         ensures none { IsNone result ↔ (self.now.active ≡ None) }
     {
         let tab = self.active?;
-        let seat = &self.seats[tab as usize];
-        if seat.page.is_none() {
-            unreachable!();
-        }
         Some(Instance {
             tab,
-            ord: seat.count - 1,
+            ord: self.pages.count(tab) - 1,
         })
     }
 
@@ -205,7 +178,7 @@ impl Tabs {
         requires { live_at self.now who.tab ≡ Some who }
         ensures { IfSome (seat_at self.now who.tab).page (λ page. result.now ≡ page.url) }
     {
-        match &self.seats[who.tab as usize].page {
+        match self.pages.page(who.tab) {
             Some(page) => page.url(),
             None => unreachable!(),
         }
@@ -216,7 +189,7 @@ impl Tabs {
         requires { live_at self.now who.tab ≡ Some who }
         ensures { IfSome (seat_at self.now who.tab).page (λ page. result.now ≡ page.origin) }
     {
-        match &self.seats[who.tab as usize].page {
+        match self.pages.page(who.tab) {
             Some(page) => page.origin(),
             None => unreachable!(),
         }
@@ -227,20 +200,10 @@ impl Tabs {
         requires { live_at self.now who.tab ≡ Some who }
         ensures { IfSome (seat_at self.now who.tab).page (λ page. (result.addr ≡ page.addr) × (result.port ≡ page.port)) }
     {
-        match &self.seats[who.tab as usize].page {
+        match self.pages.page(who.tab) {
             Some(page) => page.endpoint(),
             None => unreachable!(),
         }
-    }
-}
-
-// Whether a page is of the origin of what a tab shows.
-fn is_of_origin(page: &Page, shown: &Option<Page>) -> bool
-    ensures { result ≡ bytes_eq page.now.origin (origin_with shown.now) }
-{
-    match shown {
-        Some(shown) => page.origin() == shown.origin(),
-        None => page.origin().is_empty(),
     }
 }
 
