@@ -1,5 +1,5 @@
 -- Jars found by origin.
-use Rattle.std.proofs.Common.{◌≡◌, ℕ, List, [], ◌∷◌, Bool, true, false, refl, sym, ◌∙◌, ap, subst, Option, Some, None}
+use Rattle.std.proofs.Common.{◌≡◌, ℕ, List, [], ◌∷◌, Bool, true, false, refl, sym, ◌∙◌, ap, subst, Option, Some}
 use Rattle.std.specs.Prelude.{bytes_eq, cond, if◌then◌else◌, Result, Ok, Err, OnOk, OnErr}
 use Rattle.std.specs.Global.{Vec}
 use Rattle.std.specs.Map.{lookup, set_value}
@@ -93,7 +93,7 @@ module _ (origin : List ℕ) (old new : List Cookie) (entries after : List (Vec 
   unset_found (Ok done) err = err
   unset_found (Err e) err =
       ap origin_jars (written ∙ ap (λ (j : List Cookie). set_value (λ (key : Vec ℕ). bytes_eq origin key.items) entries j) err
-        ∙ set_value_same (λ (key : Vec ℕ). bytes_eq origin key.items) entries old (sym found)) ∙ seen
+      ∙ set_value_same (λ (key : Vec ℕ). bytes_eq origin key.items) entries old (sym found)) ∙ seen
 
 -- a jar inserted, and the jars before and after as they are seen
 pub put_inserted : (old : List OriginJar) (origin : List ℕ) (jar : List Cookie) (key : Vec ℕ) (entries after : List (Vec ℕ × List Cookie)) → after ≡ insert_entry (λ (a b : Vec ℕ). bytes_eq a.items b.items) entries key jar

@@ -80,8 +80,7 @@ impl Jars {
         ensures ok { OnOk result (PutsJar self.old self.new origin.now jar) }
         ensures err { OnErr result (self.new ≡ self.old) }
     {
-        self.jars
-            .insert(Vec::from_slice(self.alloc, origin)?, jar)?;
+        self.jars.insert(Vec::from_slice(self.alloc, origin)?, jar)?;
         Ok(())
     }
 

@@ -1,4 +1,4 @@
-use Rattle.std.proofs.Common.{◌≡◌, ◌≤◌, ◌-◌, ◌∙◌, sym, ap, arith}
+use Rattle.std.proofs.Common.{◌∙◌, sym, arith}
 use Rattle.ibos_cookie.proofs.Putting.{bytes_within, held_within, over_held, over_new}
 use Rattle.ibos_cookie.proofs.jar.Jar.is_over_after.Goals as goal
 

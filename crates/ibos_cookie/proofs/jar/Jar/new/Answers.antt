@@ -1,5 +1,4 @@
-use Rattle.std.proofs.Common.{◌≡◌, ◌∙◌, sym, ap, [], List}
-use Rattle.std.specs.Global.{Vec}
+use Rattle.std.proofs.Common.{◌∙◌, sym, ap}
 use Rattle.ibos_kinds.specs.Cookies.{jar_bytes, is_over}
 use Rattle.ibos_cookie.specs.Jars.{named_cookies}
 use Rattle.ibos_cookie.proofs.Putting.{none_within}

@@ -1,4 +1,4 @@
-use Rattle.std.proofs.Common.{◌≡◌, ◌≤◌, ◌-◌, ◌+◌, ◌∙◌, sym, ap, arith, length}
+use Rattle.std.proofs.Common.{◌∙◌, sym, ap, arith}
 use Rattle.ibos_kinds.specs.Cookies.{jar_bytes, is_over}
 use Rattle.ibos_cookie.proofs.Putting.{bytes_within, held_within, sum_held, put_held, sum_new, put_new}
 use Rattle.ibos_cookie.proofs.jar.Jar.put.Goals as goal

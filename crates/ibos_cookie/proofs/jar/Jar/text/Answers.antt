@@ -1,4 +1,4 @@
-use Rattle.std.proofs.Common.{◌≡◌, ◌∙◌, ap, List, ℕ}
+use Rattle.std.proofs.Common.{◌∙◌, ap, List, ℕ}
 use Rattle.ibos_cookie.specs.Jars.{named_cookies}
 use Rattle.ibos_cookie.proofs.Putting.{all_joined, all_joined-jar_text}
 use Rattle.ibos_cookie.proofs.jar.Jar.text.Goals as goal

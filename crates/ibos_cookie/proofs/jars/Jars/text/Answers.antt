@@ -2,7 +2,6 @@ use Rattle.std.proofs.Common.{◌≡◌, ◌∙◌, ap, subst, List, [], Some, N
 use Rattle.std.specs.Prelude.{IfOk}
 use Rattle.ibos_kinds.specs.declared.cookies.Cookie.{Cookie}
 use Rattle.ibos_kinds.specs.Cookies.{jar_text}
-use Rattle.ibos_cookie.specs.Jars.{jar_of}
 use Rattle.ibos_cookie.proofs.Finding.{jar_found}
 use Rattle.ibos_cookie.proofs.Putting.{all_joined-jar_text}
 use Rattle.ibos_cookie.proofs.jars.Jars.text.Goals as goal
