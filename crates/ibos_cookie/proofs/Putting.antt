@@ -1,223 +1,121 @@
--- What a set does to a jar, and to the jars.
-use Rattle.std.proofs.Common.{◌≡◌, ℕ, ◌+◌, ◌≤◌, ◌<◌, List, [], ◌∷◌, ◌++◌, Bool, true, false, refl, sym, ◌∙◌, ap, length, get_or, suc, add-one, arith, subst, take, length-append, append_assoc}
-use Rattle.std.specs.Prelude.{bytes_eq, slice_set, codes, not, Option, Some, None, nat_lt, ◌==◌, ◌||◌, ◌-◌, if◌then◌else◌}
+-- What a set does to the table of a jar, and a jar's text.
+use Rattle.std.proofs.Common.{◌≡◌, ℕ, ◌+◌, ◌-◌, ◌≤◌, ◌<◌, List, [], ◌∷◌, ◌++◌, Bool, true, false, refl, sym, ◌∙◌, ap, length, suc, arith, length-append, append_assoc, Some, None}
+use Rattle.std.specs.Prelude.{bytes_eq, codes, not, nat_lt, ◌==◌, ◌||◌, if◌then◌else◌}
+use Rattle.std.specs.Global.{Vec}
+use Rattle.std.specs.Map.{lookup, set_value}
 use Rattle.std.proofs.lemmas.Bool.Decides.{nat_tests}
 use Rattle.std.proofs.lemmas.Slice.Eq.{bytes_eq-Decides}
 use Rattle.std.proofs.lemmas.List.Sums.{sum_by-cons}
-use Rattle.std.proofs.lemmas.List.{take_more}
+use Rattle.indexmap.specs.IndexMap.{insert_entry}
 use Rattle.ibos_kinds.specs.declared.cookies.Cookie.{Cookie}
 use Rattle.ibos_kinds.specs.Cookies.{put, jar_bytes, is_over, jar_text, pair_text, set_breaks, cookie_in, is_token, is_value, name_in, value_in}
-use Rattle.ibos_kinds.specs.declared.rule.Rule.{Rule}
 use Rattle.ibos_kinds.specs.declared.rule.Rule.TheVariants.{C1, C2, C3}
-use Rattle.ibos_cookie.specs.Jars.{OriginJar, jar_of, place_of, place_in, AreWithin, SetsIn, joined}
-
-shorter : (n m : ℕ) → n + 1 < suc m → n < m
-shorter n m h = omega arith
-
-bytes_eq-refl : (xs : List ℕ) → bytes_eq xs xs ≡ true
-bytes_eq-refl [] = refl
-bytes_eq-refl (x ∷ xs) = grind (arith, nat_tests, bytes_eq-refl xs)
+use Rattle.ibos_cookie.specs.Jars.{named_cookies, joined}
 
 same_names : (xs ys : List ℕ) → bytes_eq xs ys ≡ true → xs ≡ ys
 same_names xs ys h = (bytes_eq-Decides xs ys).0 h
 
--- a cookie that is there is replaced in its place
-pub put-there : (new : Cookie) (cookies : List Cookie) → place_in new.name cookies < length cookies
-    → put new cookies ≡ slice_set cookies (place_in new.name cookies) new
-put-there new [] within = absurd (omega arith)
-put-there new (c ∷ cookies) within = by_test (bytes_eq new.name c.name) refl (put-there new cookies)
+length-named : (entries : List (Vec ℕ × List ℕ)) → length (named_cookies entries) ≡ length entries
+length-named [] = refl
+length-named (e ∷ es) = ap suc (length-named es)
+
+-- a value that is there is replaced in its place
+named-set_value : (name value held : List ℕ) (entries : List (Vec ℕ × List ℕ)) → lookup (λ key. bytes_eq name key.items) entries ≡ Some held
+    → named_cookies (set_value (λ key. bytes_eq name key.items) entries value) ≡ put (record { name = name; value = value }) (named_cookies entries)
+named-set_value name value held [] found = cc
+named-set_value name value held (e ∷ es) found = by_test (bytes_eq name e.0.items) refl (named-set_value name value held es)
   where
-    by_test : (here : Bool) → bytes_eq new.name c.name ≡ here
-        → (place_in new.name cookies < length cookies → put new cookies ≡ slice_set cookies (place_in new.name cookies) new)
-        → put new (c ∷ cookies) ≡ slice_set (c ∷ cookies) (place_in new.name (c ∷ cookies)) new
-    by_test true is rest = rw is refl
-    by_test false is rest = rw (is, add-one (place_in new.name cookies)) (ap (λ cs. c ∷ cs) (rest (shorter (place_in new.name cookies) (length cookies) (rw is at within))))
+    by_test : (here : Bool) → bytes_eq name e.0.items ≡ here
+        → (lookup (λ (key : Vec ℕ). bytes_eq name key.items) es ≡ Some held → named_cookies (set_value (λ key. bytes_eq name key.items) es value) ≡ put (record { name = name; value = value }) (named_cookies es))
+        → named_cookies (set_value (λ key. bytes_eq name key.items) (e ∷ es) value) ≡ put (record { name = name; value = value }) (named_cookies (e ∷ es))
+    by_test true is rest = rw is (ap (λ (n : List ℕ). record { name = n; value = value } ∷ named_cookies es) (sym (same_names name e.0.items is)))
+    by_test false is rest = rw is (ap (λ (cs : List Cookie). record { name = e.0.items; value = e.1 } ∷ cs) (rest (rw is at found)))
 
--- a new one is the last
-pub put-new : (new : Cookie) (cookies : List Cookie) → length cookies ≤ place_in new.name cookies → put new cookies ≡ cookies ++ new ∷ []
-put-new new [] past = refl
-put-new new (c ∷ cookies) past = grind (arith, nat_tests, put-new new cookies)
+-- an insertion is a set
+named-insert_entry : (key : Vec ℕ) (value : List ℕ) (entries : List (Vec ℕ × List ℕ))
+    → named_cookies (insert_entry (λ (a b : Vec ℕ). bytes_eq a.items b.items) entries key value) ≡ put (record { name = key.items; value = value }) (named_cookies entries)
+named-insert_entry key value [] = refl
+named-insert_entry key value (e ∷ es) = by_test (bytes_eq key.items e.0.items) refl (named-insert_entry key value es)
+  where
+    by_test : (here : Bool) → bytes_eq key.items e.0.items ≡ here
+        → named_cookies (insert_entry (λ (a b : Vec ℕ). bytes_eq a.items b.items) es key value) ≡ put (record { name = key.items; value = value }) (named_cookies es)
+        → named_cookies (insert_entry (λ (a b : Vec ℕ). bytes_eq a.items b.items) (e ∷ es) key value) ≡ put (record { name = key.items; value = value }) (named_cookies (e ∷ es))
+    by_test true is rest = rw is (ap (λ (n : List ℕ). record { name = n; value = value } ∷ named_cookies es) (sym (same_names key.items e.0.items is)))
+    by_test false is rest = rw is (ap (λ (cs : List Cookie). record { name = e.0.items; value = e.1 } ∷ cs) rest)
 
-pub length-put-there : (new : Cookie) (cookies : List Cookie) → place_in new.name cookies < length cookies → length (put new cookies) ≡ length cookies
-length-put-there new [] within = absurd (omega arith)
-length-put-there new (c ∷ cookies) within = grind (arith, nat_tests, length-put-there new cookies)
-
-pub length-put-new : (new : Cookie) (cookies : List Cookie) → length cookies ≤ place_in new.name cookies → length (put new cookies) ≡ length cookies + 1
-length-put-new new [] past = refl
-length-put-new new (c ∷ cookies) past = grind (arith, nat_tests, length-put-new new cookies)
-
-pub jar_bytes-cons : (c : Cookie) (cookies : List Cookie) → jar_bytes (c ∷ cookies) ≡ length c.name + length c.value + jar_bytes cookies
+jar_bytes-cons : (c : Cookie) (cookies : List Cookie) → jar_bytes (c ∷ cookies) ≡ length c.name + length c.value + jar_bytes cookies
 jar_bytes-cons c cookies = sum_by-cons (λ (x : Cookie). length x.name + length x.value) c cookies
 
-pub jar_bytes-put-there : (new : Cookie) (cookies : List Cookie) (d : Cookie) → place_in new.name cookies < length cookies
-    → jar_bytes (put new cookies) + length (get_or cookies (place_in new.name cookies) d).value ≡ jar_bytes cookies + length new.value
-jar_bytes-put-there new [] d within = absurd (omega arith)
-jar_bytes-put-there new (c ∷ cookies) d within = by_test (bytes_eq new.name c.name) refl (jar_bytes-put-there new cookies d)
+-- how a set of a name that is there counts: by the cookies, and by their bytes
+record CountsHeld (name value held : List ℕ) (entries : List (Vec ℕ × List ℕ)) : Type 0 where
+  count : length (put (record { name = name; value = value }) (named_cookies entries)) ≡ length entries
+  sum : jar_bytes (put (record { name = name; value = value }) (named_cookies entries)) + length held ≡ jar_bytes (named_cookies entries) + length value
+  within : length held ≤ jar_bytes (named_cookies entries)
+
+record CountsNew (name value : List ℕ) (entries : List (Vec ℕ × List ℕ)) : Type 0 where
+  count : length (put (record { name = name; value = value }) (named_cookies entries)) ≡ length entries + 1
+  sum : jar_bytes (put (record { name = name; value = value }) (named_cookies entries)) ≡ jar_bytes (named_cookies entries) + length name + length value
+
+some_same : (x y : List ℕ) → Some x ≡ Some y → x ≡ y
+some_same x y h = cc
+
+counts_held : (name value held : List ℕ) (entries : List (Vec ℕ × List ℕ)) → lookup (λ key. bytes_eq name key.items) entries ≡ Some held → CountsHeld name value held entries
+counts_held name value held [] found = cc
+counts_held name value held (e ∷ es) found = by_test (bytes_eq name e.0.items) refl (counts_held name value held es)
   where
-    by_test : (here : Bool) → bytes_eq new.name c.name ≡ here
-        → (place_in new.name cookies < length cookies → jar_bytes (put new cookies) + length (get_or cookies (place_in new.name cookies) d).value ≡ jar_bytes cookies + length new.value)
-        → jar_bytes (put new (c ∷ cookies)) + length (get_or (c ∷ cookies) (place_in new.name (c ∷ cookies)) d).value ≡ jar_bytes (c ∷ cookies) + length new.value
-    by_test true is rest = rw is (omega (arith, jar_bytes-cons new cookies, jar_bytes-cons c cookies, ap length (same_names new.name c.name is)))
+    here : Cookie
+    here = record { name = e.0.items; value = e.1 }
+
+    set : Cookie
+    set = record { name = name; value = value }
+
+    by_test : (same : Bool) → bytes_eq name e.0.items ≡ same → (lookup (λ (key : Vec ℕ). bytes_eq name key.items) es ≡ Some held → CountsHeld name value held es) → CountsHeld name value held (e ∷ es)
+    by_test true is rest =
+        let got : e.1 ≡ held = some_same e.1 held (rw is at found) in
+        let sums = jar_bytes-cons set (named_cookies es) in
+        let was = jar_bytes-cons here (named_cookies es) in
+        let names = ap length (same_names name e.0.items is) in
+        let len = ap length got in
+        record {
+          count = rw is (ap suc (length-named es));
+          sum = rw is (omega (arith, sums, was, names, len));
+          within = omega (arith, was, len);
+        }
     by_test false is rest =
-        let now = rest (shorter (place_in new.name cookies) (length cookies) (rw is at within)) in
-        rw (is, add-one (place_in new.name cookies)) (omega (arith, jar_bytes-cons c (put new cookies), jar_bytes-cons c cookies, now))
+        let more = rest (rw is at found) in
+        let was = jar_bytes-cons here (named_cookies es) in
+        let sums = jar_bytes-cons here (put set (named_cookies es)) in
+        record {
+          count = rw is (omega (arith, more.count));
+          sum = rw is (omega (arith, sums, was, more.sum));
+          within = omega (arith, was, more.within);
+        }
 
-pub jar_bytes-put-new : (new : Cookie) (cookies : List Cookie) → length cookies ≤ place_in new.name cookies
-    → jar_bytes (put new cookies) ≡ jar_bytes cookies + length new.name + length new.value
-jar_bytes-put-new new [] past = omega arith
-jar_bytes-put-new new (c ∷ cookies) past = by_test (bytes_eq new.name c.name) refl (jar_bytes-put-new new cookies)
+counts_new : (name value : List ℕ) (entries : List (Vec ℕ × List ℕ)) → lookup (λ key. bytes_eq name key.items) entries ≡ None → CountsNew name value entries
+counts_new name value [] absent = record { count = refl; sum = omega (arith, jar_bytes-cons (record { name = name; value = value }) []) }
+counts_new name value (e ∷ es) absent = by_test (bytes_eq name e.0.items) refl (counts_new name value es)
   where
-    by_test : (here : Bool) → bytes_eq new.name c.name ≡ here
-        → (length cookies ≤ place_in new.name cookies → jar_bytes (put new cookies) ≡ jar_bytes cookies + length new.name + length new.value)
-        → jar_bytes (put new (c ∷ cookies)) ≡ jar_bytes (c ∷ cookies) + length new.name + length new.value
-    by_test true is rest = let none = rw is at past in absurd (omega (arith, none))
+    here : Cookie
+    here = record { name = e.0.items; value = e.1 }
+
+    set : Cookie
+    set = record { name = name; value = value }
+
+    some_none : Some e.1 ≡ None → ⊥
+    some_none h = cc
+
+    by_test : (same : Bool) → bytes_eq name e.0.items ≡ same → (lookup (λ (key : Vec ℕ). bytes_eq name key.items) es ≡ None → CountsNew name value es) → CountsNew name value (e ∷ es)
+    by_test true is rest = absurd (some_none (rw is at absent))
     by_test false is rest =
-        let here = rw is at past in
-        let now = rest (omega (arith, here)) in
-        rw is (omega (arith, jar_bytes-cons c (put new cookies), jar_bytes-cons c cookies, now))
-
-pub value_within : (name : List ℕ) (cookies : List Cookie) (d : Cookie) → place_in name cookies < length cookies
-    → length (get_or cookies (place_in name cookies) d).value ≤ jar_bytes cookies
-value_within name [] d within = absurd (omega arith)
-value_within name (c ∷ cookies) d within = by_test (bytes_eq name c.name) refl (value_within name cookies d)
-  where
-    by_test : (here : Bool) → bytes_eq name c.name ≡ here
-        → (place_in name cookies < length cookies → length (get_or cookies (place_in name cookies) d).value ≤ jar_bytes cookies)
-        → length (get_or (c ∷ cookies) (place_in name (c ∷ cookies)) d).value ≤ jar_bytes (c ∷ cookies)
-    by_test true is rest = rw is (omega (arith, jar_bytes-cons c cookies))
-    by_test false is rest =
-        let now = rest (shorter (place_in name cookies) (length cookies) (rw is at within)) in
-        rw (is, add-one (place_in name cookies)) (omega (arith, jar_bytes-cons c cookies, now))
-
--- the same, as the code says it: a place that is the name's, and the cookie read there
-pub put_at : (new : Cookie) (cookies : List Cookie) (place : ℕ) → place ≡ place_in new.name cookies → place < length cookies → slice_set cookies place new ≡ put new cookies
-put_at new cookies place is within = ap (λ n. slice_set cookies n new) is ∙ sym (put-there new cookies (let P : ℕ → Type 0 = λ n. n < length cookies in subst P is within))
-
-pub over_there : (new : Cookie) (cookies : List Cookie) (place : ℕ) (old : Cookie) (bytes : ℕ) → place ≡ place_in new.name cookies → place < length cookies
-    → old ≡ get_or cookies place old → bytes ≡ jar_bytes cookies
-    → (nat_lt 20 (length cookies) || nat_lt 4096 (bytes - length old.value + 0 + length new.value)) ≡ is_over (put new cookies)
-unfolding is_over
-over_there new cookies place old bytes is within read total =
-    let P : ℕ → Type 0 = λ n. n < length cookies in
-    let inside : place_in new.name cookies < length cookies = subst P is within in
-    let Q : ℕ → Type 0 = λ n. old ≡ get_or cookies n old in
-    let there : old ≡ get_or cookies (place_in new.name cookies) old = subst Q is read in
-    let len = ap (λ (c : Cookie). length c.value) there in
-    let sum = jar_bytes-put-there new cookies old inside in
-    let fits = value_within new.name cookies old inside in
-    let bytes_are : bytes - length old.value + 0 + length new.value ≡ jar_bytes (put new cookies) = omega (arith, len, sum, fits, total) in
-    rw (bytes_are, length-put-there new cookies inside) refl
-
-pub over_new : (new : Cookie) (cookies : List Cookie) (place bytes : ℕ) → place ≡ place_in new.name cookies → length cookies ≤ place → bytes ≡ jar_bytes cookies
-    → (nat_lt 20 (length cookies + 1) || nat_lt 4096 (bytes + length new.name + length new.value)) ≡ is_over (put new cookies)
-unfolding is_over
-over_new new cookies place bytes is past total =
-    let out : length cookies ≤ place_in new.name cookies = omega arith in
-    rw (total, ← jar_bytes-put-new new cookies out, ← length-put-new new cookies out) refl
-
--- ---- jars by origin
-
-pub jar_of-there : (origin : List ℕ) (jars : List OriginJar) (d : OriginJar) → place_of origin jars < length jars → jar_of jars origin ≡ (get_or jars (place_of origin jars) d).cookies
-jar_of-there origin [] d within = absurd (omega arith)
-jar_of-there origin (j ∷ jars) d within = by_test (bytes_eq j.origin origin) refl (jar_of-there origin jars d)
-  where
-    by_test : (here : Bool) → bytes_eq j.origin origin ≡ here → (place_of origin jars < length jars → jar_of jars origin ≡ (get_or jars (place_of origin jars) d).cookies)
-        → jar_of (j ∷ jars) origin ≡ (get_or (j ∷ jars) (place_of origin (j ∷ jars)) d).cookies
-    by_test true is rest = rw is refl
-    by_test false is rest = rw (is, add-one (place_of origin jars)) (rest (shorter (place_of origin jars) (length jars) (rw is at within)))
-
-pub jar_of-none : (origin : List ℕ) (jars : List OriginJar) → length jars ≤ place_of origin jars → jar_of jars origin ≡ []
-jar_of-none origin [] past = refl
-jar_of-none origin (j ∷ jars) past = grind (arith, nat_tests, jar_of-none origin jars)
-
--- the jars with the set, where the origin has a jar
-pub sets_there : (origin : List ℕ) (set : Cookie) (jars : List OriginJar) (d : OriginJar) (other : List ℕ) → place_of origin jars < length jars
-    → jar_of (slice_set jars (place_of origin jars) (record (get_or jars (place_of origin jars) d) { cookies = put set (get_or jars (place_of origin jars) d).cookies })) other
-    ≡ (if bytes_eq origin other then put set (jar_of jars other) else jar_of jars other)
-sets_there origin set [] d other within = absurd (omega arith)
-sets_there origin set (j ∷ jars) d other within = by_test (bytes_eq j.origin origin) refl (sets_there origin set jars d other)
-  where
-    at_head : (is : Bool) → bytes_eq origin other ≡ is → j.origin ≡ origin
-        → (if bytes_eq j.origin other then put set j.cookies else jar_of jars other) ≡ (if is then put set (if bytes_eq j.origin other then j.cookies else jar_of jars other) else (if bytes_eq j.origin other then j.cookies else jar_of jars other))
-    at_head true is same = rw (same, is) refl
-    at_head false is same = rw (same, is) refl
-
-    in_tail : (here : Bool) → bytes_eq j.origin other ≡ here → bytes_eq j.origin origin ≡ false → (after : List OriginJar)
-        → jar_of after other ≡ (if bytes_eq origin other then put set (jar_of jars other) else jar_of jars other)
-        → (if here then j.cookies else jar_of after other) ≡ (if bytes_eq origin other then put set (if here then j.cookies else jar_of jars other) else (if here then j.cookies else jar_of jars other))
-    in_tail true is differs after rest = by_other (bytes_eq origin other) refl
-      where
-        by_other : (b : Bool) → bytes_eq origin other ≡ b → j.cookies ≡ (if b then put set j.cookies else j.cookies)
-        by_other false e = refl
-        by_other true e =
-            let same : j.origin ≡ origin = same_names j.origin other is ∙ sym (same_names origin other e) in
-            let back : bytes_eq origin origin ≡ false = let P : List ℕ → Type 0 = λ x. bytes_eq x origin ≡ false in subst P same differs in
-            absurd (true_false (sym (bytes_eq-refl origin) ∙ back))
-          where
-            true_false : true ≡ false → ⊥
-            true_false h = cc
-    in_tail false is differs after rest = rest
-
-    by_test : (here : Bool) → bytes_eq j.origin origin ≡ here
-        → (place_of origin jars < length jars → jar_of (slice_set jars (place_of origin jars) (record (get_or jars (place_of origin jars) d) { cookies = put set (get_or jars (place_of origin jars) d).cookies })) other
-        ≡ (if bytes_eq origin other then put set (jar_of jars other) else jar_of jars other))
-        → jar_of (slice_set (j ∷ jars) (place_of origin (j ∷ jars)) (record (get_or (j ∷ jars) (place_of origin (j ∷ jars)) d) { cookies = put set (get_or (j ∷ jars) (place_of origin (j ∷ jars)) d).cookies })) other
-        ≡ (if bytes_eq origin other then put set (jar_of (j ∷ jars) other) else jar_of (j ∷ jars) other)
-    by_test true is rest = rw is (at_head (bytes_eq origin other) refl (same_names j.origin origin is))
-    by_test false is rest =
-        let now = rest (shorter (place_of origin jars) (length jars) (rw is at within)) in
-        rw (is, add-one (place_of origin jars)) (in_tail (bytes_eq j.origin other) refl is _ now)
-
--- the jars with the set, where the origin has none
-pub sets_new : (origin : List ℕ) (set : Cookie) (jars : List OriginJar) (other : List ℕ) → length jars ≤ place_of origin jars
-    → jar_of (jars ++ record { origin = origin; cookies = set ∷ [] } ∷ []) other ≡ (if bytes_eq origin other then put set (jar_of jars other) else jar_of jars other)
-sets_new origin set [] other past = refl
-sets_new origin set (j ∷ jars) other past = by_test (bytes_eq j.origin other) refl (sets_new origin set jars other)
-  where
-    differs : bytes_eq j.origin origin ≡ false
-    differs = grind (arith, nat_tests)
-
-    past_tail : length jars ≤ place_of origin jars
-    past_tail = let h = rw differs at past in omega (arith, h)
-
-    by_test : (here : Bool) → bytes_eq j.origin other ≡ here
-        → (length jars ≤ place_of origin jars → jar_of (jars ++ record { origin = origin; cookies = set ∷ [] } ∷ []) other ≡ (if bytes_eq origin other then put set (jar_of jars other) else jar_of jars other))
-        → (if here then j.cookies else jar_of (jars ++ record { origin = origin; cookies = set ∷ [] } ∷ []) other)
-        ≡ (if bytes_eq origin other then put set (if here then j.cookies else jar_of jars other) else (if here then j.cookies else jar_of jars other))
-    by_test true is rest = by_other (bytes_eq origin other) refl
-      where
-        by_other : (b : Bool) → bytes_eq origin other ≡ b → j.cookies ≡ (if b then put set j.cookies else j.cookies)
-        by_other false e = refl
-        by_other true e =
-            let same : j.origin ≡ origin = same_names j.origin other is ∙ sym (same_names origin other e) in
-            let back : bytes_eq origin origin ≡ false = let P : List ℕ → Type 0 = λ x. bytes_eq x origin ≡ false in subst P same differs in
-            absurd (true_false (sym (bytes_eq-refl origin) ∙ back))
-          where
-            true_false : true ≡ false → ⊥
-            true_false h = cc
-    by_test false is rest = rest past_tail
-
-pub sets_at : (origin : List ℕ) (set : Cookie) (jars : List OriginJar) (place : ℕ) (old new : OriginJar) → place ≡ place_of origin jars → place < length jars
-    → old ≡ get_or jars place old → new ≡ record old { cookies = put set old.cookies } → SetsIn jars (slice_set jars place new) origin set
-sets_at origin set jars place old new is within read made other =
-    let P : ℕ → Type 0 = λ n. n < length jars in
-    let Q : ℕ → Type 0 = λ n. old ≡ get_or jars n old in
-    ap (λ (j : OriginJar). jar_of (slice_set jars place j) other) made
-    ∙ ap (λ (j : OriginJar). jar_of (slice_set jars place (record j { cookies = put set j.cookies })) other) read
-    ∙ ap (λ n. jar_of (slice_set jars n (record (get_or jars n old) { cookies = put set (get_or jars n old).cookies })) other) is
-    ∙ sets_there origin set jars old other (subst P is within)
-
-pub jar_at : (origin : List ℕ) (jars : List OriginJar) (place : ℕ) (jar : OriginJar) → place ≡ place_of origin jars → place < length jars → jar ≡ get_or jars place jar
-    → jar.cookies ≡ jar_of jars origin
-jar_at origin jars place jar is within read =
-    let P : ℕ → Type 0 = λ n. n < length jars in
-    ap (λ (j : OriginJar). j.cookies) read ∙ ap (λ n. (get_or jars n jar).cookies) is ∙ sym (jar_of-there origin jars jar (subst P is within))
+        let more = rest (rw is at absent) in
+        let was = jar_bytes-cons here (named_cookies es) in
+        let sums = jar_bytes-cons here (put set (named_cookies es)) in
+        record {
+          count = rw is (omega (arith, more.count));
+          sum = rw is (omega (arith, sums, was, more.sum));
+        }
 
 -- ---- limits
-
-pub count_within : (cookies : List Cookie) → is_over cookies ≡ false → length cookies ≤ 20
-unfolding is_over
-count_within cookies within = grind (arith, nat_tests)
 
 pub bytes_within : (cookies : List Cookie) → is_over cookies ≡ false → jar_bytes cookies ≤ 4096
 unfolding is_over
@@ -227,12 +125,57 @@ pub none_within : is_over [] ≡ false
 unfolding is_over
 none_within = refl
 
-pub sets_within : (old new : List OriginJar) (origin : List ℕ) (set : Cookie) → AreWithin old → SetsIn old new origin set → is_over (put set (jar_of old origin)) ≡ false → AreWithin new
-sets_within old new origin set within sets fits other = by_test (bytes_eq origin other) refl
-  where
-    by_test : (same : Bool) → bytes_eq origin other ≡ same → is_over (jar_of new other) ≡ false
-    by_test true same = rw (sets other, same) (rw (same_names origin other same) at fits)
-    by_test false differ = rw (sets other, differ) (within other)
+over_by : (cookies : List Cookie) (count bytes : ℕ) → count ≡ length cookies → bytes ≡ jar_bytes cookies → (nat_lt 20 count || nat_lt 4096 bytes) ≡ is_over cookies
+unfolding is_over
+over_by cookies count bytes counted summed = rw (counted, summed) refl
+
+-- a set of a name that is there, as the code says it: the bytes that were counted, without those of the held value
+module _ (name value held : List ℕ) (entries : List (Vec ℕ × List ℕ)) (jar : List Cookie) (bytes len : ℕ) (found : lookup (λ key. bytes_eq name key.items) entries ≡ Some held)
+    (counted : bytes ≡ jar_bytes (named_cookies entries)) (seen : named_cookies entries ≡ jar) (held_len : len ≡ length held) where
+  pub held_within : len ≤ bytes
+  held_within = let counts = counts_held name value held entries found in omega (arith, counts.within, counted, held_len)
+
+  pub over_held : (count : ℕ) → count ≡ length entries → (nat_lt 20 count || nat_lt 4096 (bytes - len + 0 + length value)) ≡ is_over (put (record { name = name; value = value }) jar)
+  over_held count is =
+      let counts = counts_held name value held entries found in
+      over_by (put (record { name = name; value = value }) (named_cookies entries)) count (bytes - len + 0 + length value) (is ∙ sym counts.count) (omega (arith, counts.sum, counts.within, counted, held_len))
+      ∙ ap (λ cookies. is_over (put (record { name = name; value = value }) cookies)) seen
+
+  pub sum_held : bytes - len + length value ≡ jar_bytes (put (record { name = name; value = value }) jar)
+  sum_held =
+      let counts = counts_held name value held entries found in
+      let sum : bytes - len + length value ≡ jar_bytes (put (record { name = name; value = value }) (named_cookies entries)) = omega (arith, counts.sum, counts.within, counted, held_len) in
+      sum ∙ ap (λ cookies. jar_bytes (put (record { name = name; value = value }) cookies)) seen
+
+  pub put_held : (new : List (Vec ℕ × List ℕ)) (copy : List ℕ) → new ≡ set_value (λ key. bytes_eq name key.items) entries copy → copy ≡ value
+      → named_cookies new ≡ put (record { name = name; value = value }) jar
+  put_held new copy written same =
+      ap named_cookies (written ∙ ap (λ v. set_value (λ (key : Vec ℕ). bytes_eq name key.items) entries v) same)
+      ∙ named-set_value name value held entries found ∙ ap (λ cookies. put (record { name = name; value = value }) cookies) seen
+
+module _ (name value : List ℕ) (entries : List (Vec ℕ × List ℕ)) (jar : List Cookie) (bytes : ℕ)
+    (counted : bytes ≡ jar_bytes (named_cookies entries)) (seen : named_cookies entries ≡ jar) where
+  pub over_new : (count : ℕ) → lookup (λ key. bytes_eq name key.items) entries ≡ None → count ≡ length entries
+      → (nat_lt 20 (count + 1) || nat_lt 4096 (bytes + length name + length value)) ≡ is_over (put (record { name = name; value = value }) jar)
+  over_new count absent is =
+      let counts = counts_new name value entries absent in
+      over_by (put (record { name = name; value = value }) (named_cookies entries)) (count + 1) (bytes + length name + length value) (ap (λ n. n + 1) is ∙ sym counts.count) (omega (arith, counts.sum, counted))
+      ∙ ap (λ cookies. is_over (put (record { name = name; value = value }) cookies)) seen
+
+  pub sum_new : lookup (λ key. bytes_eq name key.items) entries ≡ None → bytes + (length name + length value) ≡ jar_bytes (put (record { name = name; value = value }) jar)
+  sum_new absent =
+      let counts = counts_new name value entries absent in
+      let sum : bytes + (length name + length value) ≡ jar_bytes (put (record { name = name; value = value }) (named_cookies entries)) = omega (arith, counts.sum, counted) in
+      sum ∙ ap (λ cookies. jar_bytes (put (record { name = name; value = value }) cookies)) seen
+
+  pub put_new : (base new : List (Vec ℕ × List ℕ)) (key : Vec ℕ) (copy : List ℕ) → base ≡ entries → new ≡ insert_entry (λ (a b : Vec ℕ). bytes_eq a.items b.items) base key copy → key.items ≡ name → copy ≡ value
+      → named_cookies new ≡ put (record { name = name; value = value }) jar
+  put_new base new key copy same_base written named same =
+      ap named_cookies written ∙ named-insert_entry key copy base
+      ∙ ap (λ (es : List (Vec ℕ × List ℕ)). put (record { name = key.items; value = copy }) (named_cookies es)) same_base
+      ∙ ap (λ (n : List ℕ). put (record { name = n; value = copy }) (named_cookies entries)) named
+      ∙ ap (λ (v : List ℕ). put (record { name = name; value = v }) (named_cookies entries)) same
+      ∙ ap (λ cookies. put (record { name = name; value = value }) cookies) seen
 
 fits_by : (token value over : Bool) → None ≡ (if not token then Some C1 else if not value then Some C2 else if over then Some C3 else None) → over ≡ false
 fits_by false value over none = cc
@@ -247,35 +190,35 @@ fits_after text cookies none = fits_by (is_token (name_in text)) (is_value (valu
 
 -- ---- the text
 
+-- a text with more pairs
+abbrev pub all_joined : List ℕ → List Cookie → List ℕ
+all_joined text [] = text
+all_joined text (c ∷ cookies) = all_joined (joined text c) cookies
+
+joined-behind : (text : List ℕ) (c : Cookie) → (length text == 0) ≡ false → joined text c ≡ text ++ codes "; " ++ pair_text c
+joined-behind text c some = ap (λ (b : Bool). (if b then text else text ++ codes "; ") ++ c.name ++ codes "=" ++ c.value) some ∙ simp append_assoc
+
 pair_text-nonempty : (c : Cookie) → 0 < length (pair_text c)
 pair_text-nonempty c = omega (arith, length-append (c.name ++ codes "=") c.value, length-append c.name (codes "="))
 
--- a jar's text has no byte exactly where the jar has no cookie
-pub jar_text-nonempty : (c : Cookie) (cookies : List Cookie) → 0 < length (jar_text (c ∷ cookies))
-unfolding jar_text
-jar_text-nonempty c [] = pair_text-nonempty c
-jar_text-nonempty c (d ∷ cookies) = omega (arith, pair_text-nonempty c, length-append (pair_text c ++ codes "; ") (jar_text (d ∷ cookies)), length-append (pair_text c) (codes "; "))
+not_none : (n : ℕ) → 0 < n → (n == 0) ≡ false
+not_none n h = grind (arith, nat_tests)
 
-pub jar_text-empty : jar_text [] ≡ []
-unfolding jar_text
-jar_text-empty = refl
+some_behind : (first : List ℕ) (c : Cookie) → (length (first ++ c.name ++ codes "=" ++ c.value) == 0) ≡ false
+some_behind first c = not_none _ (omega (arith, length-append (first ++ c.name ++ codes "=") c.value, length-append (first ++ c.name) (codes "=")))
 
-push_text : (c : Cookie) (cookies : List Cookie) (last : Cookie) → jar_text ((c ∷ cookies) ++ last ∷ []) ≡ jar_text (c ∷ cookies) ++ codes "; " ++ last.name ++ codes "=" ++ last.value
-unfolding jar_text
-push_text c [] last = simp append_assoc
-push_text c (d ∷ cookies) last =
-    ap (λ more. pair_text c ++ codes "; " ++ more) (push_text d cookies last)
-    ∙ simp append_assoc
+joined_some : (text : List ℕ) (c : Cookie) → (length (joined text c) == 0) ≡ false
+joined_some text c = some_behind (if length text == 0 then text else text ++ codes "; ") c
 
--- one cookie more
-pub jar_text-push : (cookies : List Cookie) (last : Cookie) → jar_text (cookies ++ last ∷ []) ≡ joined (jar_text cookies) last
+-- pairs behind a text that is not empty
+all_joined-behind : (text : List ℕ) (c : Cookie) (cookies : List Cookie) → (length text == 0) ≡ false → all_joined text (c ∷ cookies) ≡ text ++ codes "; " ++ jar_text (c ∷ cookies)
 unfolding jar_text
-jar_text-push [] last = refl
-jar_text-push (c ∷ cookies) last =
-    let some : (length (jar_text (c ∷ cookies)) == 0) ≡ false = grind (arith, nat_tests, jar_text-nonempty c cookies) in
-    rw some (push_text c cookies last)
+all_joined-behind text c [] some = joined-behind text c some ∙ simp append_assoc
+all_joined-behind text c (d ∷ cookies) some =
+    all_joined-behind (joined text c) d cookies (joined_some text c) ∙ ap (λ t. t ++ codes "; " ++ jar_text (d ∷ cookies)) (joined-behind text c some) ∙ simp append_assoc
 
-pub jar_text-next : (cookies : List Cookie) (i : ℕ) (cookie : Cookie) → i < length cookies → cookie ≡ get_or cookies i cookie
-    → joined (jar_text (take i cookies)) cookie ≡ jar_text (take (i + 1) cookies)
-jar_text-next cookies i cookie within is =
-    sym (ap jar_text (take_more cookies i cookie within ∙ ap (λ (c : Cookie). take i cookies ++ c ∷ []) (sym is)) ∙ jar_text-push (take i cookies) cookie)
+pub all_joined-jar_text : (cookies : List Cookie) → all_joined [] cookies ≡ jar_text cookies
+unfolding jar_text
+all_joined-jar_text [] = refl
+all_joined-jar_text (c ∷ []) = refl
+all_joined-jar_text (c ∷ d ∷ cookies) = all_joined-behind (pair_text c) d cookies (not_none _ (pair_text-nonempty c))

@@ -1,7 +1,8 @@
 -- Cookie jars by origin, and what a set makes of them.
-use Rattle.std.specs.Prelude.{◌≡◌, ℕ, ◌+◌, List, [], ◌∷◌, ◌++◌, ◌==◌, false, length, codes, bytes_eq, if◌then◌else◌}
+use Rattle.std.specs.Prelude.{◌≡◌, ℕ, List, [], ◌∷◌, ◌++◌, ◌==◌, length, map, codes, bytes_eq, if◌then◌else◌}
+use Rattle.std.specs.Global.{Vec}
 use Rattle.ibos_kinds.specs.declared.cookies.Cookie.{Cookie}
-use Rattle.ibos_kinds.specs.Cookies.{is_over, put}
+use Rattle.ibos_kinds.specs.Cookies.{put}
 
 -- an origin's text, and the cookies of that origin in the order in which they were first set
 pub record OriginJar : Type 0 where
@@ -13,23 +14,21 @@ abbrev pub jar_of : List OriginJar → List ℕ → List Cookie
 jar_of [] origin = []
 jar_of (jar ∷ jars) origin = if bytes_eq jar.origin origin then jar.cookies else jar_of jars origin
 
--- how many jars stand before that of an origin
-abbrev pub place_of : List ℕ → List OriginJar → ℕ
-place_of origin [] = 0
-place_of origin (jar ∷ jars) = if bytes_eq jar.origin origin then 0 else place_of origin jars + 1
-
--- how many cookies stand before that of a name
-abbrev pub place_in : List ℕ → List Cookie → ℕ
-place_in name [] = 0
-place_in name (cookie ∷ cookies) = if bytes_eq name cookie.name then 0 else place_in name cookies + 1
-
--- no jar passes a limit
-abbrev pub AreWithin : List OriginJar → Type 0
-AreWithin jars = (origin : List ℕ) → is_over (jar_of jars origin) ≡ false
-
 -- the jars after a set of an origin: its jar has the set, and all others stay
 abbrev pub SetsIn : List OriginJar → List OriginJar → List ℕ → Cookie → Type 0
 SetsIn old new origin set = (other : List ℕ) → jar_of new other ≡ (if bytes_eq origin other then put set (jar_of old other) else jar_of old other)
+
+-- the jars after an origin is given a jar: it has that one, and all others stay
+abbrev pub PutsJar : List OriginJar → List OriginJar → List ℕ → List Cookie → Type 0
+PutsJar old new origin jar = (other : List ℕ) → jar_of new other ≡ (if bytes_eq origin other then jar else jar_of old other)
+
+-- the jars that a table by origin holds, in its order
+abbrev pub origin_jars : List (Vec ℕ × List Cookie) → List OriginJar
+origin_jars entries = map (λ entry. record { origin = entry.0.items; cookies = entry.1 }) entries
+
+-- the cookies that a table of values by name holds, in its order
+abbrev pub named_cookies : List (Vec ℕ × List ℕ) → List Cookie
+named_cookies entries = map (λ entry. record { name = entry.0.items; value = entry.1 }) entries
 
 -- a text with one pair more
 abbrev pub joined : List ℕ → Cookie → List ℕ

@@ -1,0 +1,158 @@
+// The jar of one origin.
+ghost use Rattle.std.specs.Prelude.{◌≡◌, ◌≤◌, ◌+◌, [], ◌||◌, false, nat_lt, length, IfOk, OnOk, OnErr};
+ghost use Rattle.ibos_kinds.specs.Cookies.{cookie_in, set_breaks, jar_text, is_over, put};
+ghost use Rattle.ibos_cookie.specs.Jars.{joined};
+ghost use Rattle.ibos_cookie.specs.Faults.{Answers};
+
+use crate::jars::CookieFault;
+use crate::texts::{is_token, is_value, split_cookie};
+use ibos_kinds::{Bytes, Memory, Rule};
+use indexmap::IndexMap;
+use std::alloc::Global;
+use std::marker::Model;
+
+const COOKIES: usize = 20;
+
+const BYTES: usize = 4096;
+
+/// The cookies of one origin: the values by their names, in the order in which the names were first set,
+/// and how many bytes both have together.
+#[derive(Drop)]
+pub struct Jar {
+    values: IndexMap<Vec<u8>, Bytes>,
+    bytes: usize,
+}
+
+impl Model for Jar {
+    ghost use Rattle.std.specs.Prelude.{◌≡◌, List, false};
+    ghost use Rattle.ibos_kinds.specs.declared.cookies.Cookie.{Cookie};
+    ghost use Rattle.ibos_kinds.specs.Cookies.{jar_bytes, is_over};
+    ghost use Rattle.ibos_cookie.specs.Jars.{named_cookies};
+
+    ghost Value = { List Cookie };
+
+    ghost view = { λ j. named_cookies j.values.entries };
+
+    ghost invariant = { λ j. (j.bytes ≡ jar_bytes (named_cookies j.values.entries)) × (is_over (named_cookies j.values.entries) ≡ false) };
+}
+
+impl Jar {
+    /// No cookies. Takes no memory.
+    pub fn new(alloc: Global) -> Jar
+        ensures { result ≡ [] }
+    {
+        Jar {
+            values: IndexMap::new(alloc),
+            bytes: 0,
+        }
+    }
+
+    // Whether the jar would pass a limit by one more set.
+    fn is_over_after(&self, name: &[u8], value: &[u8]) -> bool
+        ensures { result ≡ is_over (put (record { name = name.now; value = value.now }) self.now) }
+    {
+        match self.values.get(name) {
+            Some(held) => {
+                passes_limit(self.values.len(), self.bytes - held.len(), 0, value.len())
+            }
+            None => passes_limit(self.values.len() + 1, self.bytes, name.len(), value.len()),
+        }
+    }
+
+    // The first rule that a set breaks.
+    #[tactic(auto, unfolding(ibos_kinds::specs::Cookies::set_breaks))]
+    fn broken_rule(&self, text: &[u8]) -> Option<Rule>
+        ensures { result ≡ set_breaks text.now self.now }
+    {
+        let (name, value) = split_cookie(text);
+        if !is_token(name) {
+            return Some(Rule::C1);
+        }
+        if !is_value(value) {
+            return Some(Rule::C2);
+        }
+        if self.is_over_after(name, value) {
+            return Some(Rule::C3);
+        }
+        None
+    }
+
+    // Sets a cookie in its place, or as the last.
+    fn put(&mut self, alloc: Global, name: &[u8], value: &[u8]) -> Result<(), Memory>
+        requires { is_over (put (record { name = name.now; value = value.now }) self.old) ≡ false }
+        ensures ok { OnOk result (self.new ≡ put (record { name = name.now; value = value.now }) self.old) }
+        ensures err { OnErr result (self.new ≡ self.old) }
+    {
+        let copy = copy_of(alloc, value)?;
+        match self.values.get_mut(name) {
+            Some(held) => {
+                self.bytes = self.bytes - held.len() + value.len();
+                *held = copy;
+                Ok(())
+            }
+            None => {
+                self.values.insert(Vec::from_slice(alloc, name)?, copy)?;
+                self.bytes += name.len() + value.len();
+                Ok(())
+            }
+        }
+    }
+
+    /// Sets a cookie by the text `name=value`. After a refusal and after want of memory the jar is as
+    /// before.
+    pub fn set(&mut self, alloc: Global, text: &[u8]) -> Result<(), CookieFault>
+        ensures answer { Answers result (set_breaks text.now self.old) }
+        ensures ok { OnOk result (self.new ≡ put (cookie_in text.now) self.old) }
+        ensures err { OnErr result (self.new ≡ self.old) }
+    {
+        match self.broken_rule(text) {
+            Some(rule) => Err(CookieFault::Denied(rule)),
+            None => {
+                let (name, value) = split_cookie(text);
+                self.put(alloc, name, value)?;
+                Ok(())
+            }
+        }
+    }
+
+    /// The cookies as one text, `name=value` joined by `; `.
+    pub fn text(&self, alloc: Global) -> Result<Bytes, Memory>
+        ensures { IfOk result (λ text. text ≡ jar_text self.now) }
+    {
+        let mut text = Bytes::new(alloc);
+        for (name, value) in &self.values {
+            push_pair(&mut text, name.as_slice(), value.as_slice())?;
+        }
+        Ok(text)
+    }
+}
+
+fn copy_of(alloc: Global, bytes: &[u8]) -> Result<Bytes, Memory>
+    ensures { IfOk result (λ copy. copy ≡ bytes.now) }
+{
+    let mut copy = Bytes::new(alloc);
+    copy.push_slice(bytes)?;
+    Ok(copy)
+}
+
+// Whether so many cookies, or so many bytes with those of a name and a value, pass a limit.
+fn passes_limit(count: usize, bytes: usize, name_len: usize, value_len: usize) -> bool
+    requires { bytes ≤ 4096 }
+    ensures { result ≡ (nat_lt 20 count || nat_lt 4096 (bytes + name_len + value_len)) }
+{
+    let room = BYTES - bytes;
+    count > COOKIES || name_len > room || value_len > room - name_len
+}
+
+// Appends a pair, behind a semicolon and a space unless it is the first.
+fn push_pair(text: &mut Bytes, name: &[u8], value: &[u8]) -> Result<(), Memory>
+    ensures { OnOk result (text.new ≡ joined text.old (record { name = name.now; value = value.now })) }
+{
+    if !text.is_empty() {
+        text.push_slice(b"; ")?;
+    }
+    text.push_slice(name)?;
+    text.push_slice(b"=")?;
+    text.push_slice(value)?;
+    Ok(())
+}
