@@ -1,3 +1,5 @@
+ghost use Rattle.std.specs.Prelude.{◌≡◌};
+
 use super::*;
 use ibos_kinds::{Cabinet, Failed, MemCabinet, MemSink, Sink};
 use std::process::Abort;
@@ -58,6 +60,15 @@ page 0.0 go http://a.example/transfer
 page 0.0 cookie get
 ";
 
+// Runs words over a cabinet and a sink whose calls have not failed.
+fn run_new(alloc: Global, words: &[Bytes], cabinet: &mut MemCabinet, sink: &mut MemSink) -> Status
+    requires held { cabinet.old.held_faults ≡ 0 }
+    requires other { cabinet.old.other_faults ≡ 0 }
+    requires sink { sink.old.faults ≡ 0 }
+{
+    run(alloc, words, cabinet, sink)
+}
+
 // The text of a run of a script.
 fn printed(rt: &impl Abort, alloc: Global, script: &str) -> Result<MemSink, Fail> {
     let mut cabinet = MemCabinet::new(alloc);
@@ -65,7 +76,7 @@ fn printed(rt: &impl Abort, alloc: Global, script: &str) -> Result<MemSink, Fail
     cabinet.put(bytes(alloc, "s")?, bytes(alloc, script)?)?;
     let mut sink = MemSink::new(alloc, 8192)?;
     let words = [bytes(alloc, "run")?, bytes(alloc, "h")?, bytes(alloc, "s")?];
-    let status = run(alloc, &words, &mut cabinet, &mut sink);
+    let status = run_new(alloc, &words, &mut cabinet, &mut sink);
     assert_eq!(rt; status, Status::Done);
     Ok(sink)
 }
