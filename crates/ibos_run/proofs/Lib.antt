@@ -4,3 +4,4 @@ pub mod Readings
 pub mod Served
 pub mod Told
 pub mod Carries
+pub mod Counts

@@ -1,12 +1,12 @@
 -- A session, act by act.
-use Rattle.std.proofs.Common.{◌≡◌, ℕ, ◌+◌, List, [], ◌∷◌, ◌++◌, Option, Some, None, refl, sym, ◌∙◌, ap, subst, length, append-nil, append_assoc}
+use Rattle.std.proofs.Common.{◌≡◌, ℕ, ◌+◌, List, [], ◌∷◌, ◌++◌, Option, refl, sym, ◌∙◌, ap, subst, length}
 use Rattle.ibos_kinds.specs.Outside.{taken_after}
 use Rattle.ibos_kinds.specs.declared.act.Act.{Act}
 use Rattle.ibos_script.specs.Printed.{outcome_text}
 use Rattle.ibos_origin.specs.Hosts.{HostTable}
-use Rattle.ibos_model.specs.Journal.{Entry, Journal}
+use Rattle.ibos_model.specs.Journal.{Journal}
 use Rattle.ibos_model.specs.Rows.{out}
-use Rattle.ibos_model.specs.Runs.{run_from, entry_of}
+use Rattle.ibos_model.specs.Runs.{run_from}
 use Rattle.ibos_model.specs.Text.{text_of}
 use Rattle.ibos_model.specs.Inputs.{Refusal, Reading, onto_acts, journal_of, last_line, printed, session_text}
 use Rattle.ibos_kernel.specs.Tables.{Tables}

@@ -1,5 +1,5 @@
 -- How a run ends, and what cut it off.
-use Rattle.std.specs.Prelude.{◌≡◌, Option, Some, None}
+use Rattle.std.specs.Prelude.{Option, Some, None}
 use Rattle.ibos_run.specs.declared.fault.Fault.{Fault}
 use Rattle.ibos_run.specs.declared.fault.Fault.TheVariants.{Read, Write, Memory}
 use Rattle.ibos_run.specs.declared.fault.Status.{Status}

@@ -1,5 +1,5 @@
 -- A script that is read act by act.
-use Rattle.std.specs.Prelude.{◌≡◌, ◌≢◌, ℕ, List, [], Option, Some, None}
+use Rattle.std.specs.Prelude.{◌≡◌, ◌≢◌, [], Option, Some, None}
 use Rattle.ibos_kinds.specs.Limits.{Fits}
 use Rattle.ibos_script.specs.declared.fault.LineFault.TheVariants.{Memory}
 use Rattle.ibos_model.specs.Inputs.{Refusal, Reading, onto_acts, line_refusal, too_long}

@@ -1,3 +1,5 @@
+ghost use Rattle.std.specs.Prelude.{◌≡◌, ◌<◌, ◌^◌, ◌-◌, IfOk};
+
 use crate::{Status, run};
 use ibos_kinds::{Bytes, MemCabinet, MemSink, Memory};
 use std::alloc::Global;
@@ -32,11 +34,23 @@ fn words(alloc: Global) -> Result<[Bytes; 3], Memory> {
     ])
 }
 
-fn cabinet(alloc: Global, hosts: &[u8], script: Bytes) -> Result<MemCabinet, Memory> {
+fn cabinet(alloc: Global, hosts: &[u8], script: Bytes) -> Result<MemCabinet, Memory>
+    ensures held { IfOk result (λ cabinet. cabinet.held_faults ≡ 0) }
+    ensures other { IfOk result (λ cabinet. cabinet.other_faults ≡ 0) }
+{
     let mut cabinet = MemCabinet::new(alloc);
     cabinet.put(bytes(alloc, b"table")?, bytes(alloc, hosts)?)?;
     cabinet.put(bytes(alloc, b"lines")?, script)?;
     Ok(cabinet)
+}
+
+// Runs words over a cabinet and a sink whose calls have not failed.
+fn run_new(alloc: Global, words: &[Bytes], cabinet: &mut MemCabinet, sink: &mut MemSink) -> Status
+    requires held { cabinet.old.held_faults ≡ 0 }
+    requires other { cabinet.old.other_faults ≡ 0 }
+    requires sink { sink.old.faults ≡ 0 }
+{
+    run(alloc, words, cabinet, sink)
 }
 
 // Runs a script over a host table by small reads and writes, and compares the text and the status.
@@ -52,7 +66,7 @@ fn check(
     cabinet.piece(1000);
     let mut sink = MemSink::new(alloc, 100_000)?;
     sink.piece(100);
-    let ended = run(alloc, &words(alloc)?, &mut cabinet, &mut sink);
+    let ended = run_new(alloc, &words(alloc)?, &mut cabinet, &mut sink);
     assert_eq!(rt; sink.taken(), text);
     assert_eq!(rt; ended, status);
     Ok(())
@@ -247,13 +261,11 @@ fn urls_jars_and_lines_have_limits(rt: HostRuntime) -> Result<(), Fail> {
     )
 }
 
-// A host table or a script of that many bytes `x`, after another text.
+// Appends bytes `x` up to that length.
 fn push_up_to(text: &mut Bytes, length: usize) -> Result<(), Memory> {
-    let piece = [b'x'; 4096];
-    while text.len() < length {
-        let more = piece.len().min(length - text.len());
-        text.push_slice(&piece[..more])?;
-    }
+    let more = length.saturating_sub(text.len());
+    push_repeated(text, &[b'x'; 4096], more / 4096)?;
+    push_repeated(text, b"x", more % 4096)?;
     Ok(())
 }
 
@@ -284,14 +296,15 @@ fn files_have_limits(rt: HostRuntime) -> Result<(), Fail> {
 #[test]
 fn other_words_are_answered_with_the_usage_line(rt: HostRuntime) -> Result<(), Fail> {
     let alloc = rt.alloc();
-    let mut cabinet = cabinet(alloc, HOSTS, bytes(alloc, b"")?)?;
     let mut words = Vec::new(alloc);
     for word in [b"run".as_slice(), b"table", b"lines", b"run"] {
         words.push(bytes(alloc, word)?)?;
     }
     for (from, to) in [(0usize, 0usize), (0, 1), (0, 2), (1, 4), (0, 4)] {
+        let mut cabinet = cabinet(alloc, HOSTS, bytes(alloc, b"")?)?;
         let mut sink = MemSink::new(alloc, 100)?;
-        let status = run(alloc, &words[from..to], &mut cabinet, &mut sink);
+        assert!(rt; from <= to && to <= words.len());
+        let status = run_new(alloc, &words[from..to], &mut cabinet, &mut sink);
         assert_eq!(rt; status, Status::Usage);
         assert_eq!(rt;
             sink.taken(),
@@ -310,7 +323,7 @@ fn a_failed_call_ends_the_run(rt: HostRuntime) -> Result<(), Fail> {
         let mut cabinet = cabinet(alloc, HOSTS, script)?;
         cabinet.fail(call)?;
         let mut sink = MemSink::new(alloc, 100)?;
-        let status = run(alloc, &words(alloc)?, &mut cabinet, &mut sink);
+        let status = run_new(alloc, &words(alloc)?, &mut cabinet, &mut sink);
         assert_eq!(rt; status, Status::ReadFault);
         assert_eq!(rt; sink.taken(), b"".as_slice());
     }
@@ -320,7 +333,7 @@ fn a_failed_call_ends_the_run(rt: HostRuntime) -> Result<(), Fail> {
         let mut sink = MemSink::new(alloc, 100)?;
         sink.piece(5);
         sink.fail(call)?;
-        let status = run(alloc, &words(alloc)?, &mut cabinet, &mut sink);
+        let status = run_new(alloc, &words(alloc)?, &mut cabinet, &mut sink);
         assert_eq!(rt; status, Status::WriteFault);
         assert_eq!(rt; sink.taken(), text);
     }
@@ -335,7 +348,7 @@ fn text_goes_to_the_sink_in_large_pieces(rt: HostRuntime) -> Result<(), Fail> {
     let mut cabinet = cabinet(alloc, HOSTS, script)?;
     let mut sink = MemSink::new(alloc, 300_000)?;
     sink.fail(1)?;
-    let status = run(alloc, &words(alloc)?, &mut cabinet, &mut sink);
+    let status = run_new(alloc, &words(alloc)?, &mut cabinet, &mut sink);
     assert_eq!(rt; status, Status::WriteFault);
     let taken = sink.taken().len();
     assert!(rt; taken >= 65_536 && taken < 65_600);

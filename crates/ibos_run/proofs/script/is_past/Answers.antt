@@ -1,4 +1,3 @@
-use Rattle.std.proofs.Common.{◌∙◌, sym}
 use Rattle.ibos_run.proofs.Readings.{is_last-lines_of}
 use Rattle.ibos_run.proofs.script.is_past.Goals as goal
 

@@ -2,7 +2,7 @@ use Rattle.std.proofs.Common.{[], arith, ap, length, subst}
 use Rattle.ibos_run.specs.declared.script.Next.{Next}
 use Rattle.ibos_run.specs.Script.{Leads}
 use Rattle.ibos_model.specs.Inputs.{Reading}
-use Rattle.ibos_run.proofs.Served.{start_served, next_served, end_served}
+use Rattle.ibos_run.proofs.Served.{start_served, next_served}
 use Rattle.ibos_run.proofs.serving.serve_acts.Goals as goal
 
 pub acts-init : goal.acts-init

@@ -1,4 +1,4 @@
-use Rattle.std.proofs.Common.{◌≡◌, ◌+◌, ◌≤◌, ◌<◌, ◌^◌, true, List, length}
+use Rattle.std.proofs.Common.{◌≡◌, ◌+◌, ◌≤◌, ◌<◌, ◌^◌, true, length}
 use Rattle.ibos_model.specs.Journal.{Journal}
 use Rattle.ibos_run.proofs.Served.{IsServed}
 use Rattle.ibos_run.proofs.serving.serve_acts.Given as goal

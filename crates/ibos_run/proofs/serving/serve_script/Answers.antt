@@ -1,4 +1,4 @@
-use Rattle.std.proofs.Common.{◌≡◌, sym, subst, refl, ap, ◌∙◌}
+use Rattle.std.proofs.Common.{ap, ◌∙◌}
 use Rattle.ibos_model.specs.Inputs.{Reading, session_text}
 use Rattle.ibos_kinds.specs.Outside.{taken_after}
 use Rattle.ibos_run.proofs.Served.{IsOver, over_printed}

@@ -1,6 +1,4 @@
-use Rattle.std.proofs.Common.{arith, subst}
-use Rattle.std.specs.Prelude.{◌≡◌, Bool}
-use Rattle.ibos_model.specs.Inputs.{Reading}
+use Rattle.std.proofs.Common.{arith}
 use Rattle.ibos_run.proofs.Readings.{read_first, read_none, found_next, found_none}
 use Rattle.ibos_run.proofs.script.Script.next.Goals as goal
 
