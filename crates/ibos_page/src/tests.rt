@@ -1,3 +1,6 @@
+ghost use Rattle.std.specs.Prelude.{◌≡◌, Some};
+ghost use Rattle.ibos_page.specs.Tabs.{live_at};
+
 use super::*;
 use ibos_kinds::{Endpoint, Instance, Rule};
 use ibos_origin::{Hosts, Page};
@@ -20,6 +23,12 @@ fn open(rt: &impl Abort, tabs: &mut Tabs, page: Page) -> Instance {
     tabs.start(5, page)
 }
 
+fn assert_lives(rt: &impl Abort, tabs: &Tabs, who: Instance)
+    ensures { live_at tabs.now who.tab ≡ Some who }
+{
+    assert_eq!(rt; tabs.live(who), Ok(()));
+}
+
 #[test]
 fn an_instance_starts_moves_leaves_and_ends(rt: HostRuntime) -> Result<(), Fail> {
     let alloc = rt.alloc();
@@ -34,6 +43,7 @@ fn an_instance_starts_moves_leaves_and_ends(rt: HostRuntime) -> Result<(), Fail>
         tabs.go(first, page(alloc, b"http://a.example/2")?),
         Ok(Moved::Same)
     );
+    assert_lives(&rt, &tabs, first);
     assert_eq!(rt; tabs.url(first), b"http://a.example/2".as_slice());
     assert_eq!(rt; tabs.origin(first), b"http://a.example".as_slice());
     assert_eq!(rt;

@@ -1,4 +1,4 @@
-use Rattle.std.proofs.Common.{◌≤◌, ◌<◌, ◌≡◌, ◌+◌, List, Some, sym, subst, arith, get_or}
+use Rattle.std.proofs.Common.{◌≡◌, ◌+◌, List, Some, sym, subst, arith, get_or}
 use Rattle.ibos_page.specs.Seats.{Seat}
 use Rattle.ibos_page.specs.Tabs.{TabTable, IsTable, live_at, live_in, empty_seat, opened, moved}
 use Rattle.ibos_page.proofs.Seats.{table-opened, live_within, live_newest}
