@@ -12,5 +12,5 @@ mod noisy;
 pub use model::Model8254x;
 pub use noisy::Noisy;
 
-// cfg
-// mod tests;
+#[cfg(test)]
+mod tests;
