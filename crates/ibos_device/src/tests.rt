@@ -16,9 +16,11 @@ use std::alloc::Global;
 use std::process::Abort;
 use std::test::Fail;
 
-const TCP_FRAME: &[u8; 57] = b"\x02\0\0\0\0\x01\x02\0\0\0\0\xfe\x08\0\x45\0\0\x2b\0\x01\x40\0\x40\x06\x4e\x8d\xc6\x33\x64\x01\xc0\0\x02\x0a\0\x50\x80\0\0\0\0\x01\0\0\0\x01\x50\x18\x20\0\x5e\xd5\0\0abc";
+const TCP_FRAME: &[u8; 57] =
+    b"\x02\0\0\0\0\x01\x02\0\0\0\0\xfe\x08\0\x45\0\0\x2b\0\x01\x40\0\x40\x06\x4e\x8d\xc6\x33\x64\x01\xc0\0\x02\x0a\0\x50\x80\0\0\0\0\x01\0\0\0\x01\x50\x18\x20\0\x5e\xd5\0\0abc";
 
-const UDP_FRAME: &[u8; 44] = b"\x02\0\0\0\0\x01\x02\0\0\0\0\xfe\x08\0\x45\0\0\x1e\0\x02\0\0\x40\x11\x8e\x8d\xc6\x33\x64\x02\xc0\0\x02\x0a\0\x50\x82\0\0\x0a\0\0hi";
+const UDP_FRAME: &[u8; 44] =
+    b"\x02\0\0\0\0\x01\x02\0\0\0\0\xfe\x08\0\x45\0\0\x1e\0\x02\0\0\x40\x11\x8e\x8d\xc6\x33\x64\x02\xc0\0\x02\x0a\0\x50\x82\0\0\x0a\0\0hi";
 
 // Whether a descriptor of the receive ring names a buffer that is lent.
 fn may_receive(mem: &Mem, slot: u32) -> bool
@@ -48,7 +50,13 @@ fn may_arrive<N: Nic>(nic: &mut N, mem: &Mem) -> bool
 }
 
 // A frame comes.
-fn arrive<N: Nic>(rt: &impl Abort, alloc: Global, nic: &mut N, frame: &[u8], mem: &mut Mem) -> Verdict
+fn arrive<N: Nic>(
+    rt: &impl Abort,
+    alloc: Global,
+    nic: &mut N,
+    frame: &[u8],
+    mem: &mut Mem,
+) -> Verdict
     ensures lent { (p : Place) → is_lent_at mem.new p ≡ is_lent_at mem.old p }
     ensures areas { length mem.new ≡ length mem.old }
 {
@@ -216,10 +224,10 @@ fn frames_at_the_edges(rt: HostRuntime) -> Result<(), Fail> {
         let found = round(&rt, rt.alloc(), &mut nic, &frame[..len], &mut mem, &away);
         assert!(rt; found == verdict, "{len} {last}");
     }
-    frame[..6].copy_from_slice(&[0xff; 6]);
+    let to_all = [0xff; 60];
     let mut heard = 0u32;
     for _ in 0..64 {
-        let verdict = round(&rt, rt.alloc(), &mut nic, &frame[..60], &mut mem, &away);
+        let verdict = round(&rt, rt.alloc(), &mut nic, &to_all, &mut mem, &away);
         if verdict == Verdict::Heard {
             heard = heard.wrapping_add(1);
         }
@@ -242,9 +250,7 @@ fn may_send(mem: &Mem, slot: u32) -> bool
     mem.ring_get(Ring::Transmit, slot, &mut bytes);
     let descriptor = TxDesc::from_bytes(&bytes);
     let address = descriptor.address;
-    descriptor.length <= 2048
-        && address <= u64::from(u32::MAX)
-        && mem.is_lent(address as u32, 2048)
+    descriptor.length <= 2048 && address <= u64::from(u32::MAX) && mem.is_lent(address as u32, 2048)
 }
 
 // Whether the device has nothing to send, or may send what its descriptor names.
@@ -311,11 +317,17 @@ fn a_frame_is_sent_once(rt: HostRuntime) -> Result<(), Fail> {
     nic.write(Reg::Tdbal, 0x0010_1000, &mem);
     nic.write(Reg::Tdlen, 0x400, &mem);
     nic.write(Reg::Tctl, 2, &mem);
-    assert!(rt; !transmit(&rt, rt.alloc(), &mut nic, &mut mem), "nothing is rung");
+    assert!(rt;
+        !transmit(&rt, rt.alloc(), &mut nic, &mut mem),
+        "nothing is rung"
+    );
     post_to_send(&mut mem, &away, 57);
     ring_to_send(&rt, &mut nic, &mem);
     assert!(rt; transmit(&rt, rt.alloc(), &mut nic, &mut mem));
-    assert!(rt; !transmit(&rt, rt.alloc(), &mut nic, &mut mem), "the head is at the tail");
+    assert!(rt;
+        !transmit(&rt, rt.alloc(), &mut nic, &mut mem),
+        "the head is at the tail"
+    );
     let mut bytes = [0; 16];
     mem.ring_get(Ring::Transmit, 0, &mut bytes);
     assert!(rt; &bytes == b"\x00\x48\x10\0\0\0\0\0\x39\0\0\x0b\x01\0\0\0");
