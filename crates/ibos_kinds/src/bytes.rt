@@ -34,6 +34,14 @@ impl Model for Bytes {
     ghost view = { λ b. b.inner.items };
 }
 
+impl From<Vec<u8>> for Bytes {
+    ghost from_gives = { λ vec bytes. bytes ≡ vec.items };
+
+    fn from(inner: Vec<u8>) -> Self {
+        Bytes { inner }
+    }
+}
+
 impl PartialEq for Bytes {
     ghost use Rattle.std.specs.Prelude.{bytes_eq};
     ghost use Rattle.std.proofs.Common.{rules};

@@ -1,17 +1,22 @@
 -- What concerns one instance of one origin.
-use Rattle.std.specs.Prelude.{ℕ, ◌≡◌, ◌≢◌, List, [], ◌∷◌, ◌++◌, Bool, false, ◌&&◌, bytes_eq, if◌then◌else◌}
+use Rattle.std.specs.Prelude.{ℕ, ◌≡◌, ◌≢◌, List, [], ◌∷◌, ◌++◌, ◌-◌, Bool, false, not, ◌&&◌, nat_le, bytes_eq, Option, if◌then◌else◌}
 use Rattle.ibos_kinds.specs.declared.names.Instance.{Instance}
 use Rattle.ibos_kinds.specs.declared.act.Act.{Act}
-use Rattle.ibos_kinds.specs.declared.act.Act.TheVariants.{Go, CookieSet, CookieGet}
+use Rattle.ibos_kinds.specs.declared.act.Act.TheVariants.{Press, Click, Go, Draw, CookieSet, CookieGet}
 use Rattle.ibos_origin.specs.Hosts.{HostTable}
 use Rattle.ibos_model.specs.Journal.{Entry, Journal, is_accepted, same}
-use Rattle.ibos_model.specs.Tabs.{Change, Opens, Moves, Ends, changes, tabs, Unborn, life_of, origin_of}
+use Rattle.ibos_kinds.specs.Keyboard.{key_byte}
+use Rattle.ibos_kinds.specs.Screens.{chrome_rows}
+use Rattle.ibos_model.specs.Focus.{focus_of, is_active}
+use Rattle.ibos_model.specs.Tabs.{Change, Opens, Moves, Ends, changes, tabs, Unborn, life_of, origin_of, active_of}
 
 pub data Fact : Type 0 where
   Opened : (url : List ℕ) → Fact
   IsAt : (url : List ℕ) → Fact
   IsEnded : Fact
   Own : (act : Act) → Fact
+  KeyHit : (byte : ℕ) → Fact
+  ClickHit : (row col : ℕ) → Fact
   OtherSet : (text : List ℕ) → Fact
 
 -- the fact, if the test holds
@@ -23,6 +28,7 @@ abbrev pub is_own : Instance → Act → Bool
 is_own p (CookieSet side who text) = same who p
 is_own p (CookieGet side who) = same who p
 is_own p (Go who url) = same who p
+is_own p (Draw who row col height width pixels) = same who p
 is_own p other = false
 
 -- a change that the instance did not make; within its own act it is told by that
@@ -39,12 +45,19 @@ abbrev pub others : (Instance → List ℕ) → Instance → List ℕ → Bool �
 others origins p o ok (CookieSet side who text) = if same who p then [] else when (ok && bytes_eq (origins who) o) (OtherSet text)
 others origins p o ok other = []
 
+-- a key or a click that goes to the active instance
+abbrev pub hits : Instance → Option Instance → Bool → Bool → Act → List Fact
+hits p active at_entry ok (Press key) = when (ok && (not at_entry && is_active p active)) (KeyHit (key_byte key))
+hits p active at_entry ok (Click row col) = when (ok && (nat_le chrome_rows row && is_active p active)) (ClickHit (row - chrome_rows) col)
+hits p active at_entry ok other = []
+
 -- what one entry adds
 abbrev pub facts_at : HostTable → Instance → List ℕ → Journal → Entry → List Fact
 facts_at H p o J e =
     when (is_own p e.act) (Own e.act)
     ++ others (origin_of H J) p o (is_accepted e) e.act
-    ++ change_facts p (is_own p e.act) (changes H (tabs H J) (is_accepted e) e.act)
+    ++ hits p (active_of H J) (focus_of J).at_entry (is_accepted e) e.act
+    ++ change_facts p (is_own p e.act) (changes H (tabs H J) (focus_of J) (is_accepted e) e.act)
 
 -- the facts in the journal's order
 abbrev pub facts : HostTable → Instance → List ℕ → Journal → List Fact

@@ -1,12 +1,12 @@
 -- What the facts give to the instance, and what a journal delivers to it.
-use Rattle.std.specs.Prelude.{ℕ, ◌+◌, Result, Ok, Err, bytes_eq, nat_lt, List, [], ◌∷◌, ◌++◌, Bool, true, map, filter, if◌then◌else◌}
+use Rattle.std.specs.Prelude.{ℕ, ◌+◌, Result, Ok, Err, bytes_eq, nat_lt, List, [], ◌∷◌, ◌++◌, Bool, true, false, map, filter, if◌then◌else◌}
 use Rattle.ibos_kinds.specs.declared.names.Instance.{Instance}
 use Rattle.ibos_kinds.specs.declared.act.Act.{Act}
 use Rattle.ibos_kinds.specs.declared.rule.Rule.{Rule}
-use Rattle.ibos_kinds.specs.declared.act.Act.TheVariants.{Go, CookieSet, CookieGet}
+use Rattle.ibos_kinds.specs.declared.act.Act.TheVariants.{Go, Draw, CookieSet, CookieGet}
 use Rattle.ibos_kinds.specs.declared.outcome.Head.{Head}
 use Rattle.ibos_kinds.specs.declared.outcome.Item.{Item}
-use Rattle.ibos_kinds.specs.declared.outcome.Item.TheVariants.{Opened as ItemOpened, Moved, Ended, Cookies}
+use Rattle.ibos_kinds.specs.declared.outcome.Item.TheVariants.{Opened as ItemOpened, Moved, Ended, KeyTo, ClickTo, Cookies, RowIs}
 use Rattle.ibos_kinds.specs.declared.outcome.Outcome.{Outcome}
 use Rattle.ibos_kinds.specs.declared.cookies.Cookie.{Cookie}
 use Rattle.ibos_origin.specs.Hosts.{HostTable}
@@ -14,8 +14,8 @@ use Rattle.ibos_origin.specs.Pages.{Page, allowed}
 use Rattle.ibos_model.specs.Journal.{Entry, Journal, is_ok, same}
 use Rattle.ibos_model.specs.Tabs.{Life, Unborn, Alive, Gone}
 use Rattle.ibos_model.specs.Jars.{with_set}
-use Rattle.ibos_model.specs.Rows.{accepted, admitted, go_row, set_row, get_row}
-use Rattle.ibos_model.specs.Facts.{Fact, Opened, IsAt, IsEnded, Own, OtherSet, is_own}
+use Rattle.ibos_model.specs.Rows.{accepted, admitted, go_row, draw_row, set_row, get_row}
+use Rattle.ibos_model.specs.Facts.{Fact, Opened, IsAt, IsEnded, Own, KeyHit, ClickHit, OtherSet, is_own}
 
 pub data Delivery : Type 0 where
   Answer : (head : Head) → Delivery
@@ -34,6 +34,7 @@ abbrev pub own_row : HostTable → List ℕ → Act → Mine → Outcome
 own_row H o (CookieSet side who text) m = admitted m.life (set_row text m.sets)
 own_row H o (CookieGet side who) m = admitted m.life (get_row who m.sets)
 own_row H o (Go who url) m = admitted m.life (go_row who o (record { tab = who.tab; ord = who.ord + 1 }) (allowed H url))
+own_row H o (Draw who row col height width pixels) m = admitted m.life (draw_row row col height width pixels)
 own_row H o other m = accepted []
 
 abbrev pub life_after_go : Instance → List ℕ → Result Page Rule → Life
@@ -55,7 +56,10 @@ abbrev pub is_to : Instance → Item → Bool
 is_to p (ItemOpened who url) = same who p
 is_to p (Moved who url) = same who p
 is_to p (Ended who) = same who p
+is_to p (KeyTo who byte) = same who p
+is_to p (ClickTo who row col) = same who p
 is_to p (Cookies who text) = same who p
+is_to p (RowIs row text) = false
 
 abbrev pub told : Instance → List Item → List Delivery
 told p items = map Told (filter (is_to p) items)
@@ -66,6 +70,8 @@ deliveries H p o m (Opened url) = Told (ItemOpened p url) ∷ []
 deliveries H p o m (IsAt url) = Told (Moved p url) ∷ []
 deliveries H p o m IsEnded = Told (Ended p) ∷ []
 deliveries H p o m (Own a) = Answer (own_row H o a m).head ∷ told p (own_row H o a m).items
+deliveries H p o m (KeyHit byte) = Told (KeyTo p byte) ∷ []
+deliveries H p o m (ClickHit row col) = Told (ClickTo p row col) ∷ []
 deliveries H p o m (OtherSet text) = []
 
 abbrev pub mine_after : HostTable → List ℕ → Mine → Fact → Mine
@@ -73,6 +79,8 @@ mine_after H o m (Opened url) = record m { life = Alive }
 mine_after H o m (IsAt url) = m
 mine_after H o m IsEnded = record m { life = Gone }
 mine_after H o m (Own a) = own_after H o a m
+mine_after H o m (KeyHit byte) = m
+mine_after H o m (ClickHit row col) = m
 mine_after H o m (OtherSet text) = record m { sets = with_set true text m.sets }
 
 abbrev pub gives_from : HostTable → Instance → List ℕ → Mine → List Fact → List Delivery

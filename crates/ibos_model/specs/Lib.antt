@@ -1,7 +1,8 @@
 pub mod Journal
-pub mod Tabs
 pub mod Focus
+pub mod Tabs
 pub mod Jars
+pub mod Screen
 pub mod Rows
 pub mod Runs
 pub mod Facts

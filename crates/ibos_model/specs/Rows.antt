@@ -1,21 +1,27 @@
 -- The outcome of each act: the first broken rule of its row, or the row's items.
-use Rattle.std.specs.Prelude.{ℕ, List, [], ◌∷◌, nat_lt, Ok, Err, Result, Option, Some, None, bytes_eq, if◌then◌else◌}
+use Rattle.std.specs.Prelude.{ℕ, ◌+◌, ◌-◌, zero, suc, List, [], ◌∷◌, Bool, not, nat_lt, Ok, Err, Result, Option, Some, None, bytes_eq, if◌then◌else◌}
 use Rattle.ibos_kinds.specs.declared.names.Instance.{Instance}
 use Rattle.ibos_kinds.specs.declared.rule.Rule.{Rule}
-use Rattle.ibos_kinds.specs.declared.rule.Rule.TheVariants.{U1, U2, U3, P1, P2}
+use Rattle.ibos_kinds.specs.declared.rule.Rule.TheVariants.{U1, U2, U3, U10, U12, P1, P2}
+use Rattle.ibos_kinds.specs.declared.names.Key.{Key}
+use Rattle.ibos_kinds.specs.declared.names.Key.TheVariants.{Enter}
 use Rattle.ibos_kinds.specs.declared.act.Act.{Act}
-use Rattle.ibos_kinds.specs.declared.act.Act.TheVariants.{Start, Switch, Close, Go, CookieSet, CookieGet}
+use Rattle.ibos_kinds.specs.declared.act.Act.TheVariants.{Start, Switch, Close, Press, Click, Look, Go, Draw, CookieSet, CookieGet}
 use Rattle.ibos_kinds.specs.declared.outcome.Head.TheVariants.{Ok as Fine, Denied}
 use Rattle.ibos_kinds.specs.declared.outcome.Item.{Item}
-use Rattle.ibos_kinds.specs.declared.outcome.Item.TheVariants.{Opened, Moved, Ended, Cookies}
+use Rattle.ibos_kinds.specs.declared.outcome.Item.TheVariants.{Opened, Moved, Ended, KeyTo, ClickTo, Cookies, RowIs}
 use Rattle.ibos_kinds.specs.declared.outcome.Outcome.{Outcome}
 use Rattle.ibos_kinds.specs.declared.cookies.Cookie.{Cookie}
 use Rattle.ibos_kinds.specs.Cookies.{set_breaks, jar_text}
+use Rattle.ibos_kinds.specs.Keyboard.{key_breaks, key_byte}
+use Rattle.ibos_kinds.specs.Screens.{chrome_rows, content_rows, draw_breaks, is_on_screen}
 use Rattle.ibos_origin.specs.Hosts.{HostTable}
 use Rattle.ibos_origin.specs.Pages.{Page, allowed}
 use Rattle.ibos_model.specs.Journal.{Journal}
-use Rattle.ibos_model.specs.Tabs.{Life, Unborn, Alive, Gone, tabs, next_in, life_of, origin_of}
+use Rattle.ibos_model.specs.Focus.{Focus, focus_of}
+use Rattle.ibos_model.specs.Tabs.{Tabs, Life, Unborn, Alive, Gone, tabs, next_in, life_of, origin_in, origin_of, active_in, active_of}
 use Rattle.ibos_model.specs.Jars.{jar, sets_of}
+use Rattle.ibos_model.specs.Screen.{screen, seen_row}
 
 abbrev pub denied : Rule → Outcome
 denied rule = record { head = Denied rule; items = [] }
@@ -66,11 +72,55 @@ abbrev pub go_row : Instance → List ℕ → Instance → Result Page Rule → 
 go_row who origin next (Ok page) = if bytes_eq page.origin origin then accepted (Moved who page.url ∷ []) else leave_row who next page
 go_row who origin next (Err rule) = denied rule
 
+-- a key with the focus at the content goes to the active instance
+abbrev pub page_key_row : Option Instance → Key → Outcome
+page_key_row None key = accepted []
+page_key_row (Some who) key = accepted (KeyTo who (key_byte key) ∷ [])
+
+-- Enter at the entry line: the active instance goes to the page that stands there
+abbrev pub enter_row : Tabs → Option Instance → Result Page Rule → Outcome
+enter_row t None r = denied U10
+enter_row t (Some who) r = go_row who (origin_in t who) (next_in t who.tab) r
+
+-- a key with the focus at the entry line
+abbrev pub entry_key_row : HostTable → Tabs → List ℕ → Option Instance → Key → Outcome
+entry_key_row H t entry active Enter = enter_row t active (allowed H entry)
+entry_key_row H t entry active key = answer (key_breaks entry key)
+
+abbrev pub press_row : HostTable → Tabs → Focus → Option Instance → Key → Outcome
+press_row H t f active key = if f.at_entry then entry_key_row H t f.entry active key else page_key_row active key
+
+-- a click on the content goes to the active instance, by the content's own rows
+abbrev pub content_click_row : Option Instance → ℕ → ℕ → Outcome
+content_click_row None row col = denied U10
+content_click_row (Some who) row col = accepted (ClickTo who row col ∷ [])
+
+abbrev pub click_row : Option Instance → ℕ → ℕ → Outcome
+click_row active row col =
+    if not (is_on_screen row col) then denied U12
+    else if nat_lt row chrome_rows then accepted []
+    else content_click_row active (row - chrome_rows) col
+
+-- rows from one of that number on
+abbrev pub rows_from : ℕ → ℕ → (ℕ → List ℕ) → List Item
+rows_from r zero f = []
+rows_from r (suc n) f = RowIs r (f r) ∷ rows_from (r + 1) n f
+
+abbrev pub look_row : (ℕ → List ℕ) → Outcome
+look_row f = accepted (rows_from 0 (chrome_rows + content_rows) f)
+
+abbrev pub draw_row : ℕ → ℕ → ℕ → ℕ → List ℕ → Outcome
+draw_row row col height width pixels = answer (draw_breaks row col height width pixels)
+
 -- the outcome of an act after a journal
 abbrev pub out : HostTable → Journal → Act → Outcome
 out H J (Start tab url) = start_row ((tabs H J).live tab) (next_in (tabs H J) tab) (allowed H url)
 out H J (Switch tab) = switch_row ((tabs H J).live tab)
 out H J (Close tab) = close_row ((tabs H J).live tab)
+out H J (Press key) = press_row H (tabs H J) (focus_of J) (active_of H J) key
+out H J (Click row col) = click_row (active_of H J) row col
+out H J Look = look_row (seen_row (screen H J))
+out H J (Draw who row col height width pixels) = admitted (life_of H J who) (draw_row row col height width pixels)
 out H J (Go who url) = admitted (life_of H J who) (go_row who (origin_of H J who) (next_in (tabs H J) who.tab) (allowed H url))
 out H J (CookieSet side who text) = admitted (life_of H J who) (set_row text (sets_of H J (origin_of H J who)))
 out H J (CookieGet side who) = admitted (life_of H J who) (get_row who (sets_of H J (origin_of H J who)))

@@ -1,12 +1,14 @@
 -- Which instances started, live and ended, and what they show.
-use Rattle.std.specs.Prelude.{ℕ, ◌+◌, List, [], ◌∷◌, Bool, true, false, ◌==◌, Option, Some, None, Ok, Err, Result, bytes_eq, if◌then◌else◌}
+use Rattle.std.specs.Prelude.{ℕ, ◌+◌, List, [], ◌∷◌, Bool, true, false, ◌==◌, ◌&&◌, option_and_then, Option, Some, None, Ok, Err, Result, bytes_eq, if◌then◌else◌}
 use Rattle.ibos_kinds.specs.declared.names.Instance.{Instance}
 use Rattle.ibos_kinds.specs.declared.rule.Rule.{Rule}
 use Rattle.ibos_kinds.specs.declared.act.Act.{Act}
-use Rattle.ibos_kinds.specs.declared.act.Act.TheVariants.{Start, Close, Go}
+use Rattle.ibos_kinds.specs.declared.act.Act.TheVariants.{Start, Close, Press, Go}
+use Rattle.ibos_kinds.specs.declared.names.Key.TheVariants.{Enter}
 use Rattle.ibos_origin.specs.Hosts.{HostTable}
 use Rattle.ibos_origin.specs.Pages.{Page, allowed}
 use Rattle.ibos_model.specs.Journal.{Journal, is_accepted, same}
+use Rattle.ibos_model.specs.Focus.{Focus, focus_of}
 
 -- what the user and the pages made of the tabs
 pub record Tabs : Type 0 where
@@ -89,20 +91,34 @@ leave t who (Err rule) = []
 abbrev pub if_ok : Bool → List Change → List Change
 if_ok ok changes = if ok then changes else []
 
+-- the live instance of the active tab
+abbrev pub active_in : Tabs → Focus → Option Instance
+active_in t f = option_and_then t.live f.tab
+
+-- the active instance goes to the page of the entry line
+abbrev pub entering : Tabs → Option Instance → Result Page Rule → List Change
+entering t None r = []
+entering t (Some who) r = leave t who r
+
 -- what an act changes, if it is accepted
-abbrev pub changes : HostTable → Tabs → Bool → Act → List Change
-changes H t ok (Start tab url) = if_ok ok (opening t tab (allowed H url))
-changes H t ok (Close tab) = if_ok ok (end (t.live tab))
-changes H t ok (Go who url) = if_ok ok (leave t who (allowed H url))
-changes H t ok other = []
+abbrev pub changes : HostTable → Tabs → Focus → Bool → Act → List Change
+changes H t f ok (Start tab url) = if_ok ok (opening t tab (allowed H url))
+changes H t f ok (Close tab) = if_ok ok (end (t.live tab))
+changes H t f ok (Press Enter) = if_ok (ok && f.at_entry) (entering t (active_in t f) (allowed H f.entry))
+changes H t f ok (Go who url) = if_ok ok (leave t who (allowed H url))
+changes H t f ok other = []
 
 -- the tabs after a journal
 unfoldable pub tabs : HostTable → Journal → Tabs
 tabs H [] = no_tabs
-tabs H (e ∷ J) = changed_by (tabs H J) (changes H (tabs H J) (is_accepted e) e.act)
+tabs H (e ∷ J) = changed_by (tabs H J) (changes H (tabs H J) (focus_of J) (is_accepted e) e.act)
 
 abbrev pub life_of : HostTable → Journal → Instance → Life
 life_of H J p = life_in (tabs H J) p
 
 abbrev pub origin_of : HostTable → Journal → Instance → List ℕ
 origin_of H J p = origin_in (tabs H J) p
+
+-- the live instance of the active tab, after a journal
+abbrev pub active_of : HostTable → Journal → Option Instance
+active_of H J = active_in (tabs H J) (focus_of J)

@@ -1,8 +1,12 @@
 -- The fields of a line, each read from its word: None where the word has not the field's form or range.
-use Rattle.std.specs.Prelude.{ℕ, ◌+◌, ◌*◌, ◌-◌, List, [], ◌∷◌, Bool, ◌&&◌, nat_lt, nat_le, length, take, drop, fold, Option, Some, None, if◌then◌else◌}
+use Rattle.std.specs.Prelude.{ℕ, ◌+◌, ◌*◌, ◌-◌, List, [], ◌∷◌, Bool, ◌&&◌, nat_lt, nat_le, length, take, drop, fold, codes, Option, Some, None, Result, Ok, Err, if◌then◌else◌}
 use Rattle.std.specs.List.{list_all}
+use Rattle.hex.specs.Hex.{decode_of, decode_sized}
+use Rattle.hex.specs.declared.error.FromHexError.{FromHexError}
 use Rattle.ibos_kinds.specs.declared.names.Instance.{Instance}
-use Rattle.ibos_script.specs.Words.{run_len}
+use Rattle.ibos_kinds.specs.declared.names.Key.{Key}
+use Rattle.ibos_kinds.specs.declared.names.Key.TheVariants.{Byte, Enter, Back}
+use Rattle.ibos_script.specs.Words.{run_len, first_word, after_word, is_word}
 
 abbrev pub is_digit : ℕ → Bool
 is_digit b = nat_le 48 b && nat_le b 57
@@ -27,3 +31,31 @@ instance_parted tab (dot ∷ ord) = instance_named (number_in 64 tab) (number_in
 -- `T.N`: a tab, the first dot, and an ordinal
 unfoldable pub instance_in : List ℕ → Option Instance
 instance_in word = instance_parted (take (run_len 46 word) word) (drop (run_len 46 word) word)
+
+abbrev pub pair_named : Option ℕ → Option ℕ → Option (ℕ × ℕ)
+pair_named (Some first) (Some second) = Some (first, second)
+pair_named first second = None
+
+-- two numbers below 2^32
+unfoldable pub pair_in : List ℕ → Option (ℕ × ℕ)
+pair_in fields = pair_named (number_in 4294967296 (first_word fields)) (number_in 4294967296 (first_word (after_word fields)))
+
+-- a byte that a key writes
+abbrev pub key_named : Result (List ℕ) FromHexError → Option Key
+key_named (Ok (byte ∷ [])) = if nat_le 0x20 byte && nat_le byte 0x7e then Some (Byte byte) else None
+key_named other = None
+
+-- `enter`, `back`, or two hexadecimal digits from 20 to 7e
+unfoldable pub key_in : List ℕ → Option Key
+key_in word =
+    if is_word (codes "enter") word then Some Enter
+    else if is_word (codes "back") word then Some Back
+    else key_named (decode_sized word 1)
+
+abbrev pub bytes_named : Result (List ℕ) FromHexError → Option (List ℕ)
+bytes_named (Ok bytes) = Some bytes
+bytes_named (Err error) = None
+
+-- two hexadecimal digits for each byte, or `-` for none
+unfoldable pub hex_in : List ℕ → Option (List ℕ)
+hex_in word = if is_word (codes "-") word then Some [] else bytes_named (decode_of word)

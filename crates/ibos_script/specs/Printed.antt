@@ -2,11 +2,12 @@
 use Rattle.std.specs.Prelude.{◌≡◌, ℕ, List, [], ◌∷◌, ◌++◌, codes, decimal}
 use Rattle.std.specs.Borrow.{Bor}
 use Rattle.std.specs.List.{flat_map}
+use Rattle.hex.specs.Hex.{encode_lower}
 use Rattle.ibos_kinds.specs.declared.names.Instance.{Instance}
 use Rattle.ibos_kinds.specs.declared.outcome.Head.{Head}
 use Rattle.ibos_kinds.specs.declared.outcome.Head.TheVariants.{Ok, Denied}
 use Rattle.ibos_kinds.specs.declared.outcome.Item.{Item}
-use Rattle.ibos_kinds.specs.declared.outcome.Item.TheVariants.{Opened, Moved, Ended, Cookies}
+use Rattle.ibos_kinds.specs.declared.outcome.Item.TheVariants.{Opened, Moved, Ended, KeyTo, ClickTo, Cookies, RowIs}
 use Rattle.ibos_kinds.specs.declared.outcome.Outcome.{Outcome}
 use Rattle.ibos_kinds.specs.Texts.{code_of, name_of}
 
@@ -32,7 +33,10 @@ unfoldable pub item_text : Item → List ℕ
 item_text (Opened who url) = instance_text who ++ codes " opened " ++ url
 item_text (Moved who url) = instance_text who ++ codes " at " ++ url
 item_text (Ended who) = instance_text who ++ codes " ended"
+item_text (KeyTo who byte) = instance_text who ++ codes " key " ++ encode_lower (byte ∷ [])
+item_text (ClickTo who row col) = instance_text who ++ codes " click " ++ decimal row ++ codes " " ++ decimal col
 item_text (Cookies who text) = instance_text who ++ codes " cookies " ++ or_dash text
+item_text (RowIs row text) = codes "user row " ++ decimal row ++ codes " |" ++ text
 
 -- one line for each item
 abbrev pub items_text : List ℕ → List Item → List ℕ

@@ -1,12 +1,17 @@
 // The fields of a line, each read from its word.
-ghost use Rattle.std.specs.Prelude.{◌≡◌, ◌≤◌, ◌<◌, ◌^◌, true, length, IfSome};
+ghost use Rattle.std.specs.Prelude.{◌≡◌, ◌≤◌, ◌<◌, ◌^◌, true, length, IfOk, IfSome};
 ghost use Rattle.std.specs.List.{list_all};
-ghost use Rattle.ibos_kinds.specs.Limits.{IsNamed};
+ghost use Rattle.ibos_kinds.specs.Limits.{IsKey, IsNamed};
 ghost use Rattle.ibos_script.specs.Fields as spec;
-ghost use Rattle.ibos_script.specs.Fields.{number_in, instance_in, is_digit};
+ghost use Rattle.ibos_script.specs.Fields.{number_in, pair_in, instance_in, key_in, hex_in, is_digit};
 
-use crate::words::run_len;
-use ibos_kinds::Instance;
+use crate::words::{run_len, split_word};
+use hex::FromHexError;
+use ibos_kinds::{Bytes, Instance, Key, Memory};
+use std::alloc::Global;
+
+/// Numbers but for tabs, ordinals and names are below this.
+const BOUND: u64 = 1 << 32;
 
 /// A decimal number of 1 to 10 digits, leading zeros among them, that is below the bound.
 #[tactic(auto, unfolding(crate::specs::Fields::number_in))]
@@ -59,4 +64,59 @@ pub fn read_instance(word: &[u8]) -> Option<Instance>
         tab: tab as u8,
         ord: ord as u8,
     })
+}
+
+/// Two numbers below 2^32, in two words.
+#[tactic(auto, unfolding(crate::specs::Fields::pair_in))]
+pub fn read_pair(fields: &[u8]) -> Option<(u32, u32)>
+    ensures { result ≡ pair_in fields.now }
+{
+    let (first, rest) = split_word(fields);
+    let (second, _) = split_word(rest);
+    let Some(first) = read_number(BOUND, first) else {
+        return None;
+    };
+    let Some(second) = read_number(BOUND, second) else {
+        return None;
+    };
+    Some((first as u32, second as u32))
+}
+
+/// A key: `enter`, `back`, or the two hexadecimal digits of the byte that it writes.
+#[tactic(auto, unfolding(crate::specs::Fields::key_in))]
+pub fn read_key(word: &[u8]) -> Option<Key>
+    ensures key { result ≡ key_in word.now }
+    ensures fits { IfSome result IsKey }
+{
+    if word == b"enter".as_slice() {
+        return Some(Key::Enter);
+    }
+    if word == b"back".as_slice() {
+        return Some(Key::Back);
+    }
+    let mut byte = [0u8; 1];
+    if hex::decode_to_slice(word, &mut byte).is_err() {
+        return None;
+    }
+    let [byte] = byte;
+    if byte >= b' ' && byte <= b'~' {
+        Some(Key::Byte(byte))
+    } else {
+        None
+    }
+}
+
+/// Bytes: two hexadecimal digits for each, or `-` for none. None where the word has not this form.
+#[tactic(auto, unfolding(crate::specs::Fields::hex_in))]
+pub fn read_hex(alloc: Global, word: &[u8]) -> Result<Option<Bytes>, Memory>
+    ensures { IfOk result (λ bytes. bytes ≡ hex_in word.now) }
+{
+    if word == b"-".as_slice() {
+        return Ok(Some(Bytes::new(alloc)));
+    }
+    match hex::decode(alloc, word) {
+        Ok(bytes) => Ok(Some(Bytes::from(bytes))),
+        Err(FromHexError::OutOfMemory) => Err(Memory),
+        Err(_) => Ok(None),
+    }
 }

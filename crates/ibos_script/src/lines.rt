@@ -4,10 +4,10 @@ ghost use Rattle.std.specs.List.{list_all};
 ghost use Rattle.ibos_script.specs.Faults.{Gives};
 ghost use Rattle.ibos_script.specs.Words.{after_spaces};
 ghost use Rattle.ibos_script.specs.Lines as spec;
-ghost use Rattle.ibos_script.specs.Lines.{LineFits, line_in, act_in, user_in, page_in, net_in, open_in, switch_in, close_in, go_in, cookie_in, cookie_set_in, cookie_get_in};
+ghost use Rattle.ibos_script.specs.Lines.{LineFits, line_in, act_in, user_in, page_in, net_in, open_in, switch_in, close_in, press_in, click_in, look_in, go_in, draw_in, cookie_in, cookie_set_in, cookie_get_in, after_two};
 
 use crate::fault::LineFault;
-use crate::fields::{read_instance, read_number};
+use crate::fields::{read_hex, read_instance, read_key, read_number, read_pair};
 use crate::words::{has_word, skip_spaces, split_word};
 use ibos_kinds::{Act, Bytes, Memory, Side};
 use std::alloc::Global;
@@ -28,13 +28,16 @@ pub enum Line {
 ///
 /// - `user open T URL`
 /// - `user switch T` and `user close T`
+/// - `user key K`, `user click ROW COL` and `user look`
 /// - `page T.N go URL`
+/// - `page T.N draw ROW COL HEIGHT WIDTH HEX`
 /// - `page T.N cookie set TEXT` and `net T.N cookie set TEXT`
 /// - `page T.N cookie get` and `net T.N cookie get`
 ///
-/// whose words are parted by one or more spaces. T is a decimal number below 64 and N one below 32,
-/// of 1 to 10 digits. URL and TEXT are the rest of the line after the spaces that follow the word
-/// before, and may be empty.
+/// whose words are parted by one or more spaces. T is a decimal number below 64, N one below 32, and
+/// ROW, COL, HEIGHT and WIDTH are below 2^32; each has 1 to 10 digits. K is `enter`, `back` or two
+/// hexadecimal digits from 20 to 7e. HEX has two hexadecimal digits for each byte, or is `-`. URL and
+/// TEXT are the rest of the line after the spaces that follow the word before, and may be empty.
 #[tactic(auto, unfolding(crate::specs::Lines::line_in))]
 pub fn read_line(alloc: Global, line: &[u8]) -> Result<Option<Line>, LineFault>
     ensures line { Gives result (line_in line.now) }
@@ -99,6 +102,15 @@ fn read_user(alloc: Global, line: &[u8]) -> Result<Line, LineFault>
     if command == b"close".as_slice() {
         return read_close(fields);
     }
+    if command == b"key".as_slice() {
+        return read_press(fields);
+    }
+    if command == b"click".as_slice() {
+        return read_click(fields);
+    }
+    if command == b"look".as_slice() {
+        return read_look(fields);
+    }
     Err(LineFault::Word)
 }
 
@@ -110,6 +122,9 @@ fn read_page(alloc: Global, who: &[u8], line: &[u8]) -> Result<Line, LineFault>
     let (command, fields) = split_word(line);
     if command == b"go".as_slice() {
         return read_go(alloc, who, fields);
+    }
+    if command == b"draw".as_slice() {
+        return read_draw(alloc, who, fields);
     }
     if command == b"cookie".as_slice() {
         return read_cookie(alloc, Side::Page, who, fields);
@@ -191,6 +206,89 @@ fn read_close(fields: &[u8]) -> Result<Line, LineFault>
         return Err(LineFault::Number);
     };
     Ok(Line::Act(Act::Close { tab: tab as u8 }))
+}
+
+#[tactic(auto, unfolding(crate::specs::Lines::press_in))]
+fn read_press(fields: &[u8]) -> Result<Line, LineFault>
+    ensures line { Gives result (press_in fields.now) }
+    ensures fits { IfOk result LineFits }
+{
+    let (key, after) = split_word(fields);
+    if !has_word(fields) || has_word(after) {
+        return Err(LineFault::Count);
+    }
+    let Some(key) = read_key(key) else {
+        return Err(LineFault::Number);
+    };
+    Ok(Line::Act(Act::Press { key }))
+}
+
+#[tactic(auto, unfolding(crate::specs::Lines::click_in))]
+fn read_click(fields: &[u8]) -> Result<Line, LineFault>
+    ensures line { Gives result (click_in fields.now) }
+    ensures fits { IfOk result LineFits }
+{
+    let (_, col) = split_word(fields);
+    if !has_word(col) || has_word(skip_two(fields)) {
+        return Err(LineFault::Count);
+    }
+    let Some((row, col)) = read_pair(fields) else {
+        return Err(LineFault::Number);
+    };
+    Ok(Line::Act(Act::Click { row, col }))
+}
+
+#[tactic(auto, unfolding(crate::specs::Lines::look_in))]
+fn read_look(fields: &[u8]) -> Result<Line, LineFault>
+    ensures line { Gives result (look_in fields.now) }
+    ensures fits { IfOk result LineFits }
+{
+    if has_word(fields) {
+        return Err(LineFault::Count);
+    }
+    Ok(Line::Act(Act::Look))
+}
+
+// What follows two words.
+fn skip_two(line: &[u8]) -> &[u8]
+    ensures { result.now ≡ after_two line.now }
+{
+    let (_, rest) = split_word(line);
+    let (_, rest) = split_word(rest);
+    rest
+}
+
+#[tactic(auto, unfolding(crate::specs::Lines::draw_in))]
+fn read_draw(alloc: Global, who: &[u8], fields: &[u8]) -> Result<Line, LineFault>
+    ensures line { Gives result (draw_in who.now fields.now) }
+    ensures fits { IfOk result LineFits }
+{
+    let sizes = skip_two(fields);
+    let last = skip_two(sizes);
+    let (hex, after) = split_word(last);
+    if !has_word(last) || has_word(after) {
+        return Err(LineFault::Count);
+    }
+    let Some(who) = read_instance(who) else {
+        return Err(LineFault::Number);
+    };
+    let Some((row, col)) = read_pair(fields) else {
+        return Err(LineFault::Number);
+    };
+    let Some((height, width)) = read_pair(sizes) else {
+        return Err(LineFault::Number);
+    };
+    let Some(pixels) = read_hex(alloc, hex)? else {
+        return Err(LineFault::Hex);
+    };
+    Ok(Line::Act(Act::Draw {
+        who,
+        row,
+        col,
+        height,
+        width,
+        pixels,
+    }))
 }
 
 #[tactic(auto, unfolding(crate::specs::Lines::go_in))]

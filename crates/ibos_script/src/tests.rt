@@ -1,5 +1,5 @@
 use super::*;
-use ibos_kinds::{Act, Bytes, Head, Instance, Item, Memory, Outcome, Rule, Side};
+use ibos_kinds::{Act, Bytes, Head, Instance, Item, Key, Memory, Outcome, Rule, Side};
 use std::alloc::Global;
 use std::process::Abort;
 use std::test::Fail;
@@ -98,6 +98,50 @@ fn each_act_is_read_at_the_edges_of_its_fields(rt: HostRuntime) -> Result<(), Fa
 }
 
 #[test]
+fn keys_clicks_looks_and_draws_are_read(rt: HostRuntime) -> Result<(), Fail> {
+    let alloc = rt.alloc();
+    let keys = [
+        (b"user key enter".as_slice(), Key::Enter),
+        (b" user  key  back ", Key::Back),
+        (b"user key 20", Key::Byte(0x20)),
+        (b"user key 7e", Key::Byte(0x7e)),
+        (b"user key 7E", Key::Byte(0x7e)),
+    ];
+    for (line, key) in keys {
+        says(&rt, alloc, line, Act::Press { key });
+    }
+    says(&rt, alloc, b" user look ", Act::Look);
+    let (row, col) = (4294967295, 0);
+    says(
+        &rt,
+        alloc,
+        b"user click 4294967295 00",
+        Act::Click { row, col },
+    );
+    let draws = [
+        (
+            b"page 0.0 draw 21 79 1 1 78".as_slice(),
+            [21, 79, 1, 1],
+            b"x".as_slice(),
+        ),
+        (b"page 0.0 draw 0 1 4294967295 3 -", [0, 1, 4294967295, 3], b""),
+        (b"page 0.0 draw 0 0 1 2 4a4B ", [0, 0, 1, 2], b"JK"),
+    ];
+    for (line, [row, col, height, width], pixels) in draws {
+        let draw = Act::Draw {
+            who: Instance { tab: 0, ord: 0 },
+            row,
+            col,
+            height,
+            width,
+            pixels: bytes(alloc, pixels)?,
+        };
+        says(&rt, alloc, line, draw);
+    }
+    Ok(())
+}
+
+#[test]
 fn the_first_fault_of_a_line_is_answered(rt: HostRuntime) {
     let faults = [
         (b"user open 0 a\x1f".as_slice(), LineFault::Byte),
@@ -142,6 +186,27 @@ fn the_first_fault_of_a_line_is_answered(rt: HostRuntime) {
         (b"net .0 cookie set a=1", LineFault::Number),
         (b"net 0. cookie set a=1", LineFault::Number),
         (b"net 0.0. cookie set a=1", LineFault::Number),
+        (b"net 0.0 draw 0 0 1 1 78", LineFault::Word),
+        (b"user key", LineFault::Count),
+        (b"user key 20 20", LineFault::Count),
+        (b"user key 1f", LineFault::Number),
+        (b"user key 7f", LineFault::Number),
+        (b"user key 2", LineFault::Number),
+        (b"user key 2020", LineFault::Number),
+        (b"user key Enter", LineFault::Number),
+        (b"user key BACK", LineFault::Number),
+        (b"user click 1", LineFault::Count),
+        (b"user click 1 2 3", LineFault::Count),
+        (b"user click 4294967296 0", LineFault::Number),
+        (b"user click 0 x", LineFault::Number),
+        (b"user look x", LineFault::Count),
+        (b"page 0.0 draw 0 0 1 1", LineFault::Count),
+        (b"page 64.0 draw 0 0 1 1 78 7", LineFault::Count),
+        (b"page 64.0 draw 0 0 1 1 7", LineFault::Number),
+        (b"page 0.0 draw 0 0 1 x 7", LineFault::Number),
+        (b"page 0.0 draw 0 0 1 1 7", LineFault::Hex),
+        (b"page 0.0 draw 0 0 1 1 7g", LineFault::Hex),
+        (b"page 0.0 draw 0 0 1 1 --", LineFault::Hex),
     ];
     for (line, fault) in faults {
         assert!(rt; read_line(rt.alloc(), line) == Err(fault));
@@ -205,6 +270,23 @@ fn outcomes_are_printed_line_by_line(rt: HostRuntime) -> Result<(), Fail> {
         who: Instance { tab: 10, ord: 2 },
         text: Bytes::new(alloc),
     })?;
+    outcome.push(Item::KeyTo {
+        who: Instance { tab: 63, ord: 31 },
+        byte: 0x0a,
+    })?;
+    outcome.push(Item::ClickTo {
+        who: Instance { tab: 0, ord: 0 },
+        row: 21,
+        col: 79,
+    })?;
+    outcome.push(Item::RowIs {
+        row: 24,
+        text: bytes(alloc, b" x|")?,
+    })?;
+    outcome.push(Item::RowIs {
+        row: 2,
+        text: Bytes::new(alloc),
+    })?;
     write_outcome(alloc, 1024, &outcome, &mut text)?;
     outcome.clear();
     outcome.head = Head::Denied(Rule::U8);
@@ -217,6 +299,10 @@ fn outcomes_are_printed_line_by_line(rt: HostRuntime) -> Result<(), Fail> {
         1024 9.9 ended\n\
         1024 63.0 cookies a=1; b=2\n\
         1024 10.2 cookies -\n\
+        1024 63.31 key 0a\n\
+        1024 0.0 click 21 79\n\
+        1024 user row 24 | x|\n\
+        1024 user row 2 |\n\
         18446744073709551615 denied U8 LongOrigin\n";
     assert_eq!(rt; text.as_slice(), wanted.as_slice());
     Ok(())
