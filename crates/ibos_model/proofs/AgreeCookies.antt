@@ -22,7 +22,7 @@ use Rattle.ibos_model.proofs.Agrees.{mine_of, Agrees, entry, answers, admit_same
 -- ---- cookies
 
 -- an act of another tells nothing
-no_items : (broken : Option Rule) → (answer broken).items ≡ []
+pub no_items : (broken : Option Rule) → (answer broken).items ≡ []
 no_items None = refl
 no_items (Some rule) = refl
 

@@ -10,6 +10,7 @@ use Rattle.ibos_kinds.specs.declared.cookies.Cookie.{Cookie}
 use Rattle.ibos_origin.specs.Hosts.{HostTable}
 use Rattle.ibos_origin.specs.Pages.{Page, allowed}
 use Rattle.ibos_model.specs.Journal.{Journal, is_ok, same}
+use Rattle.ibos_model.specs.Focus.{focus_of}
 use Rattle.ibos_model.specs.Tabs.{Tabs, tabs, Opens, Moves, Ends, Life, Unborn, Alive, Gone, changes, changed_by, opening, end, leave, if_ok, next_in, life_with, life_of, origin_in, origin_with}
 use Rattle.ibos_model.specs.Jars.{sets_of}
 use Rattle.ibos_model.specs.Rows.{accepted, denied, admitted, open_row, start_row, switch_row, close_row, go_row, out}
@@ -47,13 +48,13 @@ go_items Alive t who (Ok page) = grind (arith, nat_tests)
 pub start_agrees : (H : HostTable) (p : Instance) (o : List ℕ) (J : Journal) (tab : ℕ) (url w : List ℕ) → IsSound (tabs H J) → Agrees H p o J (entry H J (Start tab url) w)
 unfolding tabs sets_of
 start_agrees H p o J tab url w sound =
-    let law = changes_told H p o (tabs H J) (sets_of H J o) (changes H (tabs H J) (is_ok (out H J (Start tab url)).head) (Start tab url)) sound (changes_allowed H J (Start tab url) sound) in
+    let law = changes_told H p o (tabs H J) (sets_of H J o) (changes H (tabs H J) (focus_of J) (is_ok (out H J (Start tab url)).head) (Start tab url)) sound (changes_allowed H J (Start tab url) sound) in
     record { told = ap (told p) (start_items ((tabs H J).live tab) (tabs H J) tab (allowed H url)) ∙ law.0; mine = law.1 }
 
 pub close_agrees : (H : HostTable) (p : Instance) (o : List ℕ) (J : Journal) (tab : ℕ) (w : List ℕ) → IsSound (tabs H J) → Agrees H p o J (entry H J (Close tab) w)
 unfolding tabs sets_of
 close_agrees H p o J tab w sound =
-    let law = changes_told H p o (tabs H J) (sets_of H J o) (changes H (tabs H J) (is_ok (out H J (Close tab)).head) (Close tab)) sound (changes_allowed H J (Close tab) sound) in
+    let law = changes_told H p o (tabs H J) (sets_of H J o) (changes H (tabs H J) (focus_of J) (is_ok (out H J (Close tab)).head) (Close tab)) sound (changes_allowed H J (Close tab) sound) in
     record { told = ap (told p) (close_items ((tabs H J).live tab)) ∙ law.0; mine = law.1 }
 
 -- switching tells nothing, and is no fact
@@ -70,7 +71,7 @@ switch_agrees H p o J tab w = record { told = ap (told p) (switch_items ((tabs H
 go_other : (H : HostTable) (p : Instance) (o : List ℕ) (J : Journal) (who : Instance) (url w : List ℕ) → IsSound (tabs H J) → same who p ≡ false → Agrees H p o J (entry H J (Go who url) w)
 unfolding tabs sets_of
 go_other H p o J who url w sound other =
-    let law = changes_told H p o (tabs H J) (sets_of H J o) (changes H (tabs H J) (is_ok (out H J (Go who url)).head) (Go who url)) sound (changes_allowed H J (Go who url) sound) in
+    let law = changes_told H p o (tabs H J) (sets_of H J o) (changes H (tabs H J) (focus_of J) (is_ok (out H J (Go who url)).head) (Go who url)) sound (changes_allowed H J (Go who url) sound) in
     record { told = rw other (ap (told p) (go_items (life_of H J who) (tabs H J) who (allowed H url)) ∙ law.0); mine = rw other law.1 }
 
 -- the next instance of a tab is not one that was there

@@ -1,15 +1,17 @@
 -- An instance that starts was never there before, and one that ends was there.
 use Rattle.std.proofs.Common.{◌≡◌, ◌≢◌, ℕ, ◌≤◌, List, [], ◌∷◌, Bool, true, false, Option, Some, None, Ok, Err, Result, refl, sym, ◌∙◌, ap, subst, arith}
-use Rattle.std.specs.Prelude.{if◌then◌else◌, bytes_eq}
+use Rattle.std.specs.Prelude.{if◌then◌else◌, bytes_eq, option_and_then, ◌&&◌}
 use Rattle.std.proofs.lemmas.Bool.Decides.{nat_tests}
 use Rattle.ibos_kinds.specs.declared.names.Instance.{Instance}
 use Rattle.ibos_kinds.specs.declared.rule.Rule.{Rule}
 use Rattle.ibos_kinds.specs.declared.act.Act.{Act}
-use Rattle.ibos_kinds.specs.declared.act.Act.TheVariants.{Start, Close, Go}
+use Rattle.ibos_kinds.specs.declared.act.Act.TheVariants.{Start, Close, Press, Go}
+use Rattle.ibos_kinds.specs.declared.names.Key.TheVariants.{Enter}
 use Rattle.ibos_origin.specs.Hosts.{HostTable}
 use Rattle.ibos_origin.specs.Pages.{Page, allowed}
 use Rattle.ibos_model.specs.Journal.{Entry, Journal, is_accepted}
-use Rattle.ibos_model.specs.Tabs.{Tabs, Change, Opens, Moves, Ends, changed, changed_by, changes, opening, end, leave, tabs, next_in, Unborn, life_with, origin_in}
+use Rattle.ibos_model.specs.Focus.{focus_of}
+use Rattle.ibos_model.specs.Tabs.{Tabs, entering, active_in, Change, Opens, Moves, Ends, changed, changed_by, changes, opening, end, leave, tabs, next_in, Unborn, life_with, origin_in}
 use Rattle.ibos_kinds.specs.declared.outcome.Outcome.{Outcome}
 use Rattle.ibos_model.specs.Journal.{is_ok}
 use Rattle.ibos_model.specs.Tabs.{if_ok, no_tabs, Gone, Alive, origin_with}
@@ -76,10 +78,21 @@ go_allowed : (t : Tabs) (who : Instance) (row : Outcome) (r : Result Page Rule) 
 go_allowed t who row r None is = tt
 go_allowed t who row r (Some page) is = if_ok_allowed t _ (leave t who r) (leave_allowed t who r (λ none. cc))
 
+-- the active instance was there
+pub active_lives : (t : Tabs) (tab : Option ℕ) (who : Instance) → IsSound t → option_and_then t.live tab ≡ Some who → t.page who ≢ None
+active_lives t None who sound is = cc
+active_lives t (Some tab) who sound is = sound.lives tab who is
+
+entering_allowed : (t : Tabs) (active : Option Instance) (r : Result Page Rule) → ((who : Instance) → active ≡ Some who → t.page who ≢ None) → AllowsAll t (entering t active r)
+entering_allowed t None r lives = tt
+entering_allowed t (Some who) r lives = leave_allowed t who r (lives who refl)
+
 -- the changes of an act that a run may have
-pub changes_allowed : (H : HostTable) (J : Journal) (a : Act) → IsSound (tabs H J) → AllowsAll (tabs H J) (changes H (tabs H J) (is_ok (out H J a).head) a)
+pub changes_allowed : (H : HostTable) (J : Journal) (a : Act) → IsSound (tabs H J) → AllowsAll (tabs H J) (changes H (tabs H J) (focus_of J) (is_ok (out H J a).head) a)
 changes_allowed H J (Start tab url) sound = if_ok_allowed (tabs H J) _ _ (opening_allowed (tabs H J) tab (allowed H url))
 changes_allowed H J (Close tab) sound = if_ok_allowed (tabs H J) _ _ (end_allowed (tabs H J) ((tabs H J).live tab) (sound.lives tab))
+changes_allowed H J (Press Enter) sound = if_ok_allowed (tabs H J) _ _
+    (entering_allowed (tabs H J) (active_in (tabs H J) (focus_of J)) _ (λ who. active_lives (tabs H J) (focus_of J).tab who sound))
 changes_allowed H J (Go who url) sound = go_allowed (tabs H J) who _ (allowed H url) ((tabs H J).page who) refl
 changes_allowed H J other sound = tt
 
@@ -90,18 +103,18 @@ changed_by_sound t (c ∷ cs) sound allowed = changed_by_sound (changed t c) cs 
 no_tabs_sound : IsSound no_tabs
 no_tabs_sound = record { unborn = λ q h. refl; kept = λ q h. refl; lives = λ tab who h. cc }
 
-entry_allowed_if : (H : HostTable) (J : Journal) (e : Entry) → e.outcome ≡ out H J e.act → IsSound (tabs H J) → AllowsAll (tabs H J) (changes H (tabs H J) (is_accepted e) e.act)
+entry_allowed_if : (H : HostTable) (J : Journal) (e : Entry) → e.outcome ≡ out H J e.act → IsSound (tabs H J) → AllowsAll (tabs H J) (changes H (tabs H J) (focus_of J) (is_accepted e) e.act)
 entry_allowed_if H J e is sound =
     let ok : is_ok (out H J e.act).head ≡ is_accepted e = ap (λ (r : Outcome). is_ok r.head) (sym is) in
-    subst (λ (b : Bool). AllowsAll (tabs H J) (changes H (tabs H J) b e.act)) ok (changes_allowed H J e.act sound)
+    subst (λ (b : Bool). AllowsAll (tabs H J) (changes H (tabs H J) (focus_of J) b e.act)) ok (changes_allowed H J e.act sound)
 
 pub tabs_sound : (H : HostTable) (J : Journal) → IsRun H J → IsSound (tabs H J)
 unfolding tabs
 tabs_sound H [] run = no_tabs_sound
-tabs_sound H (e ∷ J) run = changed_by_sound (tabs H J) (changes H (tabs H J) (is_accepted e) e.act) (tabs_sound H J run.1)
+tabs_sound H (e ∷ J) run = changed_by_sound (tabs H J) (changes H (tabs H J) (focus_of J) (is_accepted e) e.act) (tabs_sound H J run.1)
     (entry_allowed_if H J e run.0 (tabs_sound H J run.1))
 
-entry_allowed : (H : HostTable) (J : Journal) (e : Entry) → IsRun H (e ∷ J) → AllowsAll (tabs H J) (changes H (tabs H J) (is_accepted e) e.act)
+entry_allowed : (H : HostTable) (J : Journal) (e : Entry) → IsRun H (e ∷ J) → AllowsAll (tabs H J) (changes H (tabs H J) (focus_of J) (is_accepted e) e.act)
 entry_allowed H J e run = entry_allowed_if H J e run.0 (tabs_sound H J run.1)
 
 -- a page stays
@@ -130,5 +143,5 @@ pub suits_before : (H : HostTable) (p : Instance) (o : List ℕ) (J : Journal) (
 unfolding tabs
 suits_before H p o J e run suits =
     suits_by o ((tabs H J).page p) ((tabs H (e ∷ J)).page p) ((tabs H J).is_gone p) ((tabs H (e ∷ J)).is_gone p)
-    (λ x is. pages_stay (tabs H J) (changes H (tabs H J) (is_accepted e) e.act) p x (tabs_sound H J run.1) (entry_allowed H J e run) is)
+    (λ x is. pages_stay (tabs H J) (changes H (tabs H J) (focus_of J) (is_accepted e) e.act) p x (tabs_sound H J run.1) (entry_allowed H J e run) is)
     suits

@@ -2,7 +2,7 @@
 use Rattle.std.proofs.Common.{◌≡◌, ℕ, List, [], ◌∷◌, ◌++◌, refl, sym, ◌∙◌, ap, subst}
 use Rattle.ibos_kinds.specs.declared.names.Instance.{Instance}
 use Rattle.ibos_kinds.specs.declared.act.Act.{Act}
-use Rattle.ibos_kinds.specs.declared.act.Act.TheVariants.{Start, Switch, Close, Go, CookieSet, CookieGet}
+use Rattle.ibos_kinds.specs.declared.act.Act.TheVariants.{Start, Switch, Close, Press, Click, Look, Go, Draw, CookieSet, CookieGet}
 use Rattle.ibos_kinds.specs.declared.outcome.Outcome.{Outcome}
 use Rattle.ibos_origin.specs.Hosts.{HostTable}
 use Rattle.ibos_model.specs.Journal.{Entry, Journal, same}
@@ -18,12 +18,17 @@ use Rattle.ibos_model.proofs.Fresh.{suits_before, IsSound, tabs_sound}
 use Rattle.ibos_model.proofs.Agrees.{mine_of, Agrees, entry}
 use Rattle.ibos_model.proofs.AgreeTabs.{start_agrees, switch_agrees, close_agrees, go_agrees}
 use Rattle.ibos_model.proofs.AgreeCookies.{set_agrees, get_agrees}
+use Rattle.ibos_model.proofs.AgreeInput.{press_agrees, click_agrees, look_agrees, draw_agrees}
 
 -- one entry agrees, whatever the act
 agrees : (H : HostTable) (p : Instance) (o : List ℕ) (J : Journal) (a : Act) (w : List ℕ) → IsSound (tabs H J) → Suits H p o J → Agrees H p o J (entry H J a w)
 agrees H p o J (Start tab url) w sound suits = start_agrees H p o J tab url w sound
 agrees H p o J (Switch tab) w sound suits = switch_agrees H p o J tab w
 agrees H p o J (Close tab) w sound suits = close_agrees H p o J tab w sound
+agrees H p o J (Press key) w sound suits = press_agrees H p o J key w sound
+agrees H p o J (Click row col) w sound suits = click_agrees H p o J row col w
+agrees H p o J Look w sound suits = look_agrees H p o J w
+agrees H p o J (Draw who row col height width pixels) w sound suits = draw_agrees H p o J who row col height width pixels w (same who p) refl
 agrees H p o J (Go who url) w sound suits = go_agrees H p o J who url w sound suits (same who p) refl
 agrees H p o J (CookieSet side who text) w sound suits = set_agrees H p o J side who text w suits (same who p) refl
 agrees H p o J (CookieGet side who) w sound suits = get_agrees H p o J side who w suits (same who p) refl

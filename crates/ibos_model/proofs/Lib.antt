@@ -5,4 +5,5 @@ pub mod JarSteps
 pub mod Agrees
 pub mod AgreeTabs
 pub mod AgreeCookies
+pub mod AgreeInput
 pub mod Isolated

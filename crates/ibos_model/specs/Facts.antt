@@ -1,5 +1,5 @@
 -- What concerns one instance of one origin.
-use Rattle.std.specs.Prelude.{ℕ, ◌≡◌, ◌≢◌, List, [], ◌∷◌, ◌++◌, ◌-◌, Bool, false, not, ◌&&◌, nat_le, bytes_eq, Option, if◌then◌else◌}
+use Rattle.std.specs.Prelude.{ℕ, ◌≡◌, ◌≢◌, List, [], ◌∷◌, ◌++◌, ◌-◌, Bool, false, not, ◌&&◌, nat_lt, bytes_eq, Option, if◌then◌else◌}
 use Rattle.ibos_kinds.specs.declared.names.Instance.{Instance}
 use Rattle.ibos_kinds.specs.declared.act.Act.{Act}
 use Rattle.ibos_kinds.specs.declared.act.Act.TheVariants.{Press, Click, Go, Draw, CookieSet, CookieGet}
@@ -48,16 +48,16 @@ others origins p o ok other = []
 -- a key or a click that goes to the active instance
 abbrev pub hits : Instance → Option Instance → Bool → Bool → Act → List Fact
 hits p active at_entry ok (Press key) = when (ok && (not at_entry && is_active p active)) (KeyHit (key_byte key))
-hits p active at_entry ok (Click row col) = when (ok && (nat_le chrome_rows row && is_active p active)) (ClickHit (row - chrome_rows) col)
+hits p active at_entry ok (Click row col) = when (ok && (not (nat_lt row chrome_rows) && is_active p active)) (ClickHit (row - chrome_rows) col)
 hits p active at_entry ok other = []
 
 -- what one entry adds
 abbrev pub facts_at : HostTable → Instance → List ℕ → Journal → Entry → List Fact
 facts_at H p o J e =
     when (is_own p e.act) (Own e.act)
-    ++ others (origin_of H J) p o (is_accepted e) e.act
-    ++ hits p (active_of H J) (focus_of J).at_entry (is_accepted e) e.act
-    ++ change_facts p (is_own p e.act) (changes H (tabs H J) (focus_of J) (is_accepted e) e.act)
+    ++ (hits p (active_of H J) (focus_of J).at_entry (is_accepted e) e.act
+    ++ (others (origin_of H J) p o (is_accepted e) e.act
+    ++ change_facts p (is_own p e.act) (changes H (tabs H J) (focus_of J) (is_accepted e) e.act)))
 
 -- the facts in the journal's order
 abbrev pub facts : HostTable → Instance → List ℕ → Journal → List Fact
