@@ -30,9 +30,11 @@ fn actor_of(act: &Act) -> Option<Instance>
 {
     match act {
         Act::Go { who, .. } => Some(*who),
+        Act::Draw { who, .. } => Some(*who),
         Act::CookieSet { who, .. } => Some(*who),
         Act::CookieGet { who, .. } => Some(*who),
         Act::Start { .. } | Act::Switch { .. } | Act::Close { .. } => None,
+        Act::Press { .. } | Act::Click { .. } | Act::Look => None,
     }
 }
 
@@ -55,6 +57,9 @@ pub fn told(item: &Item) -> Party
         Item::Opened { who, .. } => Party::Page(*who),
         Item::Moved { who, .. } => Party::Page(*who),
         Item::Ended { who } => Party::Page(*who),
+        Item::KeyTo { who, .. } => Party::Page(*who),
+        Item::ClickTo { who, .. } => Party::Page(*who),
         Item::Cookies { who, .. } => Party::Page(*who),
+        Item::RowIs { .. } => Party::User,
     }
 }
