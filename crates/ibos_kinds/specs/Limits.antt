@@ -1,18 +1,30 @@
--- The ranges of an act's fields: 64 tabs, and 32 instances a tab.
-use Rattle.std.specs.Prelude.{◌<◌}
+-- The ranges of an act's fields: 64 tabs, 32 instances a tab, and the bytes that a key writes.
+use Rattle.std.specs.Prelude.{◌<◌, ◌≤◌}
 use Rattle.ibos_kinds.specs.declared.names.Instance.{Instance}
+use Rattle.ibos_kinds.specs.declared.names.Key.{Key}
+use Rattle.ibos_kinds.specs.declared.names.Key.TheVariants.{Byte, Enter, Back}
 use Rattle.ibos_kinds.specs.declared.act.Act.{Act}
-use Rattle.ibos_kinds.specs.declared.act.Act.TheVariants.{Start, Switch, Close, Go, CookieSet, CookieGet}
+use Rattle.ibos_kinds.specs.declared.act.Act.TheVariants.{Start, Switch, Close, Press, Click, Look, Go, Draw, CookieSet, CookieGet}
 
 -- an instance that a run can reach
 abbrev pub IsNamed : Instance → Type 0
 IsNamed who = (who.tab < 64) × (who.ord < 32)
+
+-- a key that writes a byte writes a printable one
+abbrev pub IsKey : Key → Type 0
+IsKey (Byte byte) = (0x20 ≤ byte) × (byte ≤ 0x7e)
+IsKey Enter = Unit {0}
+IsKey Back = Unit {0}
 
 -- each field of the act is in its range
 abbrev pub Fits : Act → Type 0
 Fits (Start tab url) = tab < 64
 Fits (Switch tab) = tab < 64
 Fits (Close tab) = tab < 64
+Fits (Press key) = IsKey key
+Fits (Click row col) = Unit {0}
+Fits Look = Unit {0}
 Fits (Go who url) = IsNamed who
+Fits (Draw who row col height width pixels) = IsNamed who
 Fits (CookieSet side who text) = IsNamed who
 Fits (CookieGet side who) = IsNamed who

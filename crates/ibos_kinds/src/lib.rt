@@ -16,7 +16,7 @@ pub use act::Act;
 pub use bytes::{Bytes, Memory};
 pub use cookies::Cookie;
 pub use fakes::{File, MemCabinet, MemSink};
-pub use names::{Dir, Endpoint, Handle, Heading, Instance, Local, Proto, Side, Verdict};
+pub use names::{Dir, Endpoint, Handle, Heading, Instance, Key, Local, Proto, Side, Verdict};
 pub use outcome::{Head, Item, Items, Outcome};
 pub use outside::{Cabinet, Failed, Sink};
 pub use rule::Rule;

@@ -67,3 +67,12 @@ pub enum Verdict {
     Missed,
     Heard,
 }
+
+/// A key that the user presses.
+#[derive(Clone, Copy, Debug, PartialEq, Eq)]
+pub enum Key {
+    /// A key that writes a byte, from 0x20 to 0x7E.
+    Byte(u8),
+    Enter,
+    Back,
+}

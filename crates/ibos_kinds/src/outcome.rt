@@ -21,8 +21,14 @@ pub enum Item {
     Moved { who: Instance, url: Bytes },
     /// An instance ended.
     Ended { who: Instance },
+    /// A key that the user pressed for an instance: its byte, 0x0A for Enter and 0x08 for Back.
+    KeyTo { who: Instance, byte: u8 },
+    /// The user clicked on a cell of an instance's content.
+    ClickTo { who: Instance, row: u8, col: u8 },
     /// The cookies of an instance's origin, as `name=value` joined by `; `.
     Cookies { who: Instance, text: Bytes },
+    /// A row of the screen, which the user sees, without the spaces at its end.
+    RowIs { row: u8, text: Bytes },
 }
 
 /// Items in their order, which contracts see as the list of them.

@@ -44,6 +44,12 @@ fn acts_fit_up_to_their_bounds(rt: HostRuntime) -> Result<(), Fail> {
         assert_eq!(rt; Act::CookieGet { side, who }.fits(), fits);
     }
     assert!(rt; Act::Switch { tab: 63 }.fits() && !Act::Close { tab: 64 }.fits());
+    for (byte, fits) in [(0x1fu8, false), (0x20, true), (0x7e, true), (0x7f, false)] {
+        let key = Key::Byte(byte);
+        assert_eq!(rt; Act::Press { key }.fits(), fits);
+    }
+    assert!(rt; Act::Press { key: Key::Enter }.fits() && Act::Press { key: Key::Back }.fits());
+    assert!(rt; Act::Look.fits() && Act::Click { row: 25, col: 80 }.fits());
     Ok(())
 }
 
