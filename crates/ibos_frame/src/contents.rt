@@ -1,9 +1,9 @@
 // The contents of all instances.
 ghost use Rattle.std.specs.Prelude.{◌≡◌, ◌≢◌, ℕ, ◌+◌, ◌*◌, ◌<◌, ◌≤◌, length, slice_index_or, slice_index, None, Some, OnOk, OnErr, vec_len};
 ghost use Rattle.ibos_kinds.specs.declared.names.Instance.{Instance};
-ghost use Rattle.ibos_frame.specs.Drawing.{content_rows, columns, drawn_at};
-ghost use Rattle.ibos_frame.specs.Screens.{content_in, pixel_in};
-ghost use Rattle.ibos_frame.specs.Screens as spec;
+ghost use Rattle.ibos_kinds.specs.Screens.{content_rows, columns, cell_after};
+ghost use Rattle.ibos_frame.specs.Frames.{content_in, pixel_in};
+ghost use Rattle.ibos_frame.specs.Frames as spec;
 
 use crate::content::Content;
 use ibos_kinds::{Instance, Memory};
@@ -82,7 +82,7 @@ impl Contents {
         requires columns { col + width ≤ columns }
         requires count { length pixels.now ≡ height * width }
         ensures open { content_in self.new who ≢ None }
-        ensures own { (r c : ℕ) → c < 80 → pixel_in (content_in self.new who) r c ≡ drawn_at row col height width pixels.now r c (pixel_in (content_in self.old who) r c) }
+        ensures own { (r c : ℕ) → c < 80 → pixel_in (content_in self.new who) r c ≡ cell_after row col height width pixels.now r c (pixel_in (content_in self.old who) r c) }
         ensures others { (q : Instance) → q ≢ who → content_in self.new q ≡ content_in self.old q }
     {
         match &mut self.places[place_of(who)] {

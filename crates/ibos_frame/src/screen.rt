@@ -2,9 +2,9 @@
 ghost use Rattle.std.specs.Prelude.{◌≡◌, ◌≢◌, ◌↔◌, ℕ, ◌+◌, ◌*◌, ◌<◌, ◌≤◌, ◌++◌, length, take, replicate, slice_index, true, false, None, Some, IfOk, OnOk, OnErr, IfSome, IsTrue};
 ghost use Rattle.std.specs.List.{list_all};
 ghost use Rattle.ibos_kinds.specs.declared.names.Instance.{Instance};
-ghost use Rattle.ibos_frame.specs.Drawing.{space, is_pixel, draw_rule, answer_of, drawn_at};
-ghost use Rattle.ibos_frame.specs.Drawing as spec;
-ghost use Rattle.ibos_frame.specs.Screens.{padded, body_of, content_in};
+ghost use Rattle.ibos_kinds.specs.Screens.{space, is_pixel, draw_breaks, cell_after};
+ghost use Rattle.ibos_kinds.specs.Screens as spec;
+ghost use Rattle.ibos_frame.specs.Frames.{answer_of, padded, body_of, content_in};
 
 use crate::content::{COLUMNS, Content, SPACE};
 use crate::contents::Contents;
@@ -29,7 +29,7 @@ pub struct Screen {
 }
 
 impl Model for Screen {
-    ghost use Rattle.ibos_frame.specs.Screens.{Frames, frames_of, IsComposed};
+    ghost use Rattle.ibos_frame.specs.Frames.{Frames, frames_of, IsComposed};
 
     ghost Value = { Frames };
 
@@ -39,7 +39,7 @@ impl Model for Screen {
 }
 
 impl Screen {
-    ghost use Rattle.ibos_frame.specs.Screens.{content_of, content_at, is_open, chrome_at, pixel_at};
+    ghost use Rattle.ibos_frame.specs.Frames.{content_of, content_at, is_open, chrome_at, seen_at};
 
     /// All spaces: no content was added, and nothing is shown.
     pub fn new(alloc: Global) -> Result<Screen, Memory>
@@ -102,15 +102,15 @@ impl Screen {
         pixels: &[u8],
     ) -> Result<(), Rule>
         requires { is_open self.old who ≡ true }
-        ensures answer { result ≡ answer_of (draw_rule row col height width pixels.now) }
+        ensures answer { result ≡ answer_of (draw_breaks row col height width pixels.now) }
         ensures open { OnOk result (is_open self.new who ≡ true) }
-        ensures drawn { OnOk result ((r c : ℕ) → r < 22 → c < 80 → content_at self.new who r c ≡ drawn_at row col height width pixels.now r c (content_at self.old who r c)) }
+        ensures drawn { OnOk result ((r c : ℕ) → r < 22 → c < 80 → content_at self.new who r c ≡ cell_after row col height width pixels.now r c (content_at self.old who r c)) }
         ensures others { OnOk result ((q : Instance) → q ≢ who → content_of self.new q ≡ content_of self.old q) }
         ensures shown { self.new.shown ≡ self.old.shown }
         ensures chrome { self.new.chrome ≡ self.old.chrome }
         ensures err { OnErr result (self.new ≡ self.old) }
     {
-        if !is_region(row, col, height, width, pixels.len()) {
+        if !is_region(row, col, height, width, pixels) {
             return Err(Rule::P3);
         }
         if !are_pixels(pixels) {
@@ -157,7 +157,7 @@ impl Screen {
     /// The 2,000 pixels, row by row. Takes no memory.
     pub fn pixels(&self) -> &[u8]
         ensures count { length result.now ≡ 2000 }
-        ensures pixels { (r c : ℕ) → r < 25 → c < 80 → slice_index result.now (80 * r + c) ≡ pixel_at self.now r c }
+        ensures pixels { (r c : ℕ) → r < 25 → c < 80 → slice_index result.now (80 * r + c) ≡ seen_at self.now r c }
     {
         self.pixels.as_slice()
     }
@@ -169,16 +169,16 @@ fn is_shown(shown: Option<Instance>, who: Instance) -> bool
     shown == Some(who)
 }
 
-#[tactic(auto, unfolding(crate::specs::Drawing::is_region))]
-fn is_region(row: u32, col: u32, height: u32, width: u32, count: usize) -> bool
-    ensures { result ≡ spec.is_region row col height width count }
+#[tactic(auto, unfolding(ibos_kinds::specs::Screens::is_region))]
+fn is_region(row: u32, col: u32, height: u32, width: u32, pixels: &[u8]) -> bool
+    ensures { result ≡ spec.is_region row col height width pixels.now }
 {
     let (height, width) = (height as u64, width as u64);
     height > 0
         && width > 0
         && row as u64 + height <= 22
         && col as u64 + width <= 80
-        && count as u64 == height * width
+        && pixels.len() as u64 == height * width
 }
 
 fn are_pixels(pixels: &[u8]) -> bool

@@ -1,8 +1,9 @@
 -- The screen: three rows of chrome over the content of the instance that is shown.
-use Rattle.std.specs.Prelude.{◌≡◌, ℕ, ◌+◌, ◌-◌, ◌*◌, List, ◌++◌, length, take, drop, replicate, Bool, nat_lt, slice_index, Option, Some, None, option_and_then, unwrap_or, is_some, if◌then◌else◌}
+use Rattle.std.specs.Prelude.{◌≡◌, ℕ, ◌+◌, ◌-◌, ◌*◌, List, ◌++◌, length, take, drop, replicate, Bool, nat_lt, slice_index, Option, Some, None, Result, Ok, Err, option_and_then, unwrap_or, is_some, if◌then◌else◌}
 use Rattle.std.specs.List.{slice_index_or}
 use Rattle.ibos_kinds.specs.declared.names.Instance.{Instance}
-use Rattle.ibos_frame.specs.Drawing.{columns, space}
+use Rattle.ibos_kinds.specs.declared.rule.Rule.{Rule}
+use Rattle.ibos_kinds.specs.Screens.{columns, chrome_rows, space}
 
 -- the contents of the instances that were added and not ended, each under its instance's place; the
 -- instance that is shown; and the pixels of rows 0 to 2, row by row
@@ -47,8 +48,13 @@ abbrev pub padded : List ℕ → List ℕ
 padded text = text ++ replicate (columns - length text) space
 
 -- row r of 0 to 24, column c of the screen: the chrome's rows, and then those of the content shown
-unfoldable pub pixel_at : Frames → ℕ → ℕ → ℕ
-pixel_at f r c = if nat_lt r 3 then slice_index (chrome_at f r) c else pixel_in (shown_content f) (r - 3) c
+unfoldable pub seen_at : Frames → ℕ → ℕ → ℕ
+seen_at f r c = if nat_lt r chrome_rows then slice_index (chrome_at f r) c else pixel_in (shown_content f) (r - chrome_rows) c
+
+-- the answer of a call that breaks a rule, or none
+abbrev pub answer_of : Option Rule → Result Unit Rule
+answer_of None = Ok tt
+answer_of (Some rule) = Err rule
 
 -- what rows 3 to 24 hold
 abbrev pub body_of : List (Option (List ℕ)) → Option Instance → List ℕ
