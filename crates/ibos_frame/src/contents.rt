@@ -94,7 +94,9 @@ impl Contents {
 
 // Where an instance's content stands: those of the tabs' first instances come first.
 fn place_of(who: Instance) -> usize
-    ensures { result ≡ spec.place_of who }
+    ensures place { result ≡ spec.place_of who }
+    ensures tab { who.tab < 256 }
+    ensures bound { result < 65536 }
 {
     256 * who.ord as usize + who.tab as usize
 }
