@@ -1,0 +1,181 @@
+// The entry line, and where keys and clicks go.
+ghost use Rattle.std.specs.Prelude.{◌≡◌, ℕ, ◌≤◌, [], length, true, false, OnErr};
+ghost use Rattle.std.specs.List.{list_all};
+ghost use Rattle.ibos_kinds.specs.Keyboard as kinds;
+ghost use Rattle.ibos_kinds.specs.Limits.{IsKey};
+ghost use Rattle.ibos_kinds.specs.Screens.{is_pixel};
+
+use arrayvec::ArrayVec;
+use ibos_kinds::{Key, Rule};
+use std::marker::Model;
+
+const ENTRY_ROW: u32 = 2;
+
+const CHROME_ROWS: u32 = 3;
+
+const ROWS: u32 = 25;
+
+const COLUMNS: u32 = 80;
+
+/// Where keys go: to the entry line, or to the content of the active instance.
+#[derive(Clone, Copy, Debug, PartialEq, Eq)]
+pub enum Spot {
+    Entry,
+    Content,
+}
+
+/// What a key did: it goes to the active instance as this byte, it changed the entry line, or it is an
+/// Enter at the entry line, which stays.
+#[derive(Clone, Copy, Debug, PartialEq, Eq)]
+pub enum KeyDone {
+    ToPage(u8),
+    Edited,
+    Enter,
+}
+
+/// Where a click fell: on the chrome's first rows, on the entry line, or on the content, at this row and
+/// column of it.
+#[derive(Clone, Copy, Debug, PartialEq, Eq)]
+pub enum ClickDone {
+    Chrome,
+    Entry,
+    Content { row: u8, col: u8 },
+}
+
+/// The entry line of at most 1,024 bytes, each 0x20 to 0x7E, and where keys go. Takes no memory.
+#[derive(Drop)]
+pub struct Focus {
+    entry: ArrayVec<u8, 1024>,
+    spot: Spot,
+}
+
+impl Model for Focus {
+    ghost use Rattle.std.specs.Prelude.{◌≡◌, true};
+    ghost use Rattle.std.specs.List.{list_all};
+    ghost use Rattle.ibos_kinds.specs.Screens.{is_pixel};
+    ghost use Rattle.ibos_focus.specs.Focused.{Focused};
+
+    ghost Value = { Focused };
+
+    ghost view = { λ f. record { entry = f.entry.items; spot = f.spot } };
+
+    ghost invariant = { λ f. list_all is_pixel f.entry.items ≡ true };
+}
+
+impl Focus {
+    ghost use Rattle.ibos_focus.specs.Focused.{key_of, after_key, click_of, after_click};
+
+    /// An empty entry line, to which keys go.
+    pub fn new() -> Focus
+        ensures { result ≡ record { entry = []; spot = Spot.Entry } }
+    {
+        Focus {
+            entry: ArrayVec::new(),
+            spot: Spot::Entry,
+        }
+    }
+
+    /// Where a key goes. At the content it goes to the active instance: Enter as 0x0A, Back as 0x08. At
+    /// the entry line a byte is appended, U11 exactly where 1,024 stand there; Back removes the last byte, if
+    /// there is one; and Enter is U10 exactly where nothing is active.
+    pub fn key(&mut self, key: Key, active: bool) -> Result<KeyDone, Rule>
+        requires byte { IsKey key }
+        requires spot { active ≡ false → self.old.spot ≡ Spot.Entry }
+        ensures answer { result ≡ key_of self.old key active }
+        ensures after { self.new ≡ after_key self.old key }
+        ensures err { OnErr result (self.new ≡ self.old) }
+    {
+        if self.spot == Spot::Content {
+            return Ok(KeyDone::ToPage(key_byte(key)));
+        }
+        match key {
+            Key::Byte(byte) => {
+                if self.entry.is_full() {
+                    return Err(Rule::U11);
+                }
+                self.entry.push(byte);
+                Ok(KeyDone::Edited)
+            }
+            Key::Back => {
+                self.entry.pop();
+                Ok(KeyDone::Edited)
+            }
+            Key::Enter => {
+                if active {
+                    Ok(KeyDone::Enter)
+                } else {
+                    Err(Rule::U10)
+                }
+            }
+        }
+    }
+
+    /// Where a click falls, by its row and column on the screen: U12 exactly where the row is above 24 or
+    /// the column above 79. Rows 0 and 1 change nothing, row 2 sends keys to the entry line. The rows from 3
+    /// on are U10 exactly where nothing is active; else they send keys to the content, and are told less 3.
+    pub fn click(&mut self, row: u32, col: u32, active: bool) -> Result<ClickDone, Rule>
+        ensures answer { result ≡ click_of row col active }
+        ensures after { self.new ≡ after_click self.old row col active }
+        ensures err { OnErr result (self.new ≡ self.old) }
+    {
+        if row >= ROWS || col >= COLUMNS {
+            return Err(Rule::U12);
+        }
+        if row < ENTRY_ROW {
+            return Ok(ClickDone::Chrome);
+        }
+        if row == ENTRY_ROW {
+            self.spot = Spot::Entry;
+            return Ok(ClickDone::Entry);
+        }
+        if !active {
+            return Err(Rule::U10);
+        }
+        self.spot = Spot::Content;
+        Ok(ClickDone::Content {
+            row: (row - CHROME_ROWS) as u8,
+            col: col as u8,
+        })
+    }
+
+    /// The entry line's bytes.
+    pub fn entry(&self) -> &[u8]
+        ensures value { result.now ≡ self.now.entry }
+        ensures fits { length result.now ≤ 1024 }
+        ensures printable { list_all is_pixel result.now ≡ true }
+    {
+        self.entry.as_slice()
+    }
+
+    /// Where keys go.
+    pub fn spot(&self) -> Spot
+        ensures { result ≡ self.now.spot }
+    {
+        self.spot
+    }
+
+    /// Empties the entry line.
+    pub fn clear(&mut self)
+        ensures { self.new ≡ record self.old { entry = [] } }
+    {
+        self.entry.clear();
+    }
+
+    /// Sends keys to the entry line, or to the content.
+    pub fn to(&mut self, spot: Spot)
+        ensures { self.new ≡ record self.old { spot = spot } }
+    {
+        self.spot = spot;
+    }
+}
+
+// The byte that a page is told of a key.
+fn key_byte(key: Key) -> u8
+    ensures { result ≡ kinds.key_byte key }
+{
+    match key {
+        Key::Byte(byte) => byte,
+        Key::Enter => 0x0a,
+        Key::Back => 0x08,
+    }
+}

@@ -1,0 +1,11 @@
+//! The screen: what each instance has drawn, and the rows that are seen.
+#![tactic(auto)]
+
+mod content;
+mod contents;
+mod screen;
+
+pub use screen::Screen;
+
+#[cfg(test)]
+mod tests;
