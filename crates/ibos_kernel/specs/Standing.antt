@@ -1,5 +1,5 @@
 -- Tables that stand for a journal.
-use Rattle.std.specs.Prelude.{ℕ, ◌≡◌, ◌+◌, ◌≤◌, List, [], ◌∷◌, false, length, Option, Some, None, nat_lt, if◌then◌else◌}
+use Rattle.std.specs.Prelude.{ℕ, ◌≡◌, ◌+◌, ◌<◌, ◌≤◌, List, [], ◌∷◌, true, false, length, Option, Some, None, nat_lt, if◌then◌else◌}
 use Rattle.ibos_kinds.specs.declared.names.Instance.{Instance}
 use Rattle.ibos_kinds.specs.declared.act.Act.{Act}
 use Rattle.ibos_kinds.specs.declared.outcome.Outcome.{Outcome}
@@ -9,10 +9,13 @@ use Rattle.ibos_page.specs.Tabs.{TabTable, seat_at, live_at, is_live_in}
 use Rattle.ibos_cookie.specs.Jars.{jar_of}
 use Rattle.ibos_model.specs.Journal.{Journal, Entry}
 use Rattle.ibos_model.specs.Tabs.{Tabs, Life, Unborn, Alive, Gone, tabs, life_in, origin_in}
-use Rattle.ibos_model.specs.Focus.{active_tab}
+use Rattle.ibos_kinds.specs.Screens.{space}
+use Rattle.ibos_frame.specs.Frames.{content_at}
+use Rattle.ibos_model.specs.Focus.{active_tab, focus_of}
+use Rattle.ibos_model.specs.Screen.{cell_of}
 use Rattle.ibos_model.specs.Jars.{jar, sets_of}
 use Rattle.ibos_model.specs.Runs.{IsRun}
-use Rattle.ibos_kernel.specs.Tables.{Tables, origin_at}
+use Rattle.ibos_kernel.specs.Tables.{Tables, Parts, IsTied, is_entry, is_live, origin_at, parts_of, url_with}
 
 -- whether an instance lives, by its tab's seat
 abbrev pub life_by : Instance → Seat → Life
@@ -23,10 +26,6 @@ life_by who seat =
 
 abbrev pub life_at : TabTable → Instance → Life
 life_at t who = life_by who (seat_at t who.tab)
-
-abbrev pub url_with : Option Page → List ℕ
-url_with None = []
-url_with (Some page) = page.url
 
 -- the table of tabs shows what the journal's views of tabs say
 pub record Shows (T : Tabs) (t : TabTable) : Type 0 where
@@ -39,12 +38,25 @@ pub record Shows (T : Tabs) (t : TabTable) : Type 0 where
   pub origin : (who : Instance) → live_at t who.tab ≡ Some who → origin_in T who ≡ origin_at t who
   pub url : (who : Instance) → live_at t who.tab ≡ Some who → T.url who ≡ url_with (seat_at t who.tab).page
 
--- the kernel's tables stand for a journal, which is that of a run
-pub record Stands (J : Journal) (t : Tables) : Type 0 where
+-- the screen's parts show what the journal's views of focus and screen say
+pub record Displays (J : Journal) (t : Parts) : Type 0 where
+  pub spot : (focus_of J).at_entry ≡ is_entry t.focus.spot
+  pub entry : (focus_of J).entry ≡ t.focus.entry
+  pub cells : (q : Instance) (r c : ℕ) → r < 22 → c < 80 → is_live t.tabs q ≡ true → content_at t.frames q r c ≡ cell_of J q r c
+  pub blank : (q : Instance) (r c : ℕ) → (seat_at t.tabs q.tab).count ≤ q.ord → cell_of J q r c ≡ space
+  pub tied : IsTied t.tabs t.frames t.focus
+
+-- the kernel's parts stand for a journal, which is that of a run
+pub record Holds (J : Journal) (t : Parts) : Type 0 where
   pub run : IsRun t.hosts J
   pub shown : Shows (tabs t.hosts J) t.tabs
   pub active : active_tab J ≡ t.tabs.active
   pub jars : (o : List ℕ) → jar_of t.jars o ≡ jar (sets_of t.hosts J o)
+  pub displays : Displays J t
+
+-- the kernel stands for a journal
+pub record Stands (J : Journal) (t : Tables) : Type 0 where
+  pub parts : Holds J (parts_of t)
   pub acts : length J ≡ t.acts
 
 -- the entry of an act that heard no frame

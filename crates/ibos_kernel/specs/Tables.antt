@@ -1,31 +1,107 @@
 -- The kernel's tables, and what each act makes of them.
-use Rattle.std.specs.Prelude.{◌≡◌, ℕ, List, [], ◌∷◌, Bool, ◌&&◌, is_some, nat_lt, bytes_eq, Option, Some, None, Result, Ok, Err, if◌then◌else◌}
+use Rattle.std.specs.Prelude.{◌≡◌, ℕ, ◌+◌, ◌<◌, zero, length, suc, List, [], ◌∷◌, Bool, true, false, ◌&&◌, is_some, nat_lt, bytes_eq, Option, Some, None, Result, Ok, Err, if◌then◌else◌}
 use Rattle.ibos_kinds.specs.declared.cookies.Cookie.{Cookie}
 use Rattle.ibos_kinds.specs.Cookies.{cookie_in, jar_text, put, set_breaks}
 use Rattle.ibos_kinds.specs.declared.names.Instance.{Instance}
 use Rattle.ibos_kinds.specs.declared.rule.Rule.{Rule}
 use Rattle.ibos_kinds.specs.declared.act.Act.{Act}
-use Rattle.ibos_kinds.specs.declared.act.Act.TheVariants.{Start, Switch, Close, Go, CookieSet, CookieGet}
+use Rattle.ibos_kinds.specs.declared.act.Act.TheVariants.{Start, Switch, Close, Press, Click, Look, Go, Draw, CookieSet, CookieGet}
 use Rattle.ibos_kinds.specs.declared.outcome.Outcome.{Outcome}
 use Rattle.ibos_kinds.specs.declared.outcome.Item.TheVariants.{Opened, Moved as ItemMoved, Ended, Cookies}
-use Rattle.ibos_kinds.specs.declared.rule.Rule.TheVariants.{U2}
+use Rattle.ibos_kinds.specs.declared.rule.Rule.TheVariants.{U2, U10}
+use Rattle.ibos_kinds.specs.declared.names.Key.{Key}
+use Rattle.ibos_kinds.specs.declared.names.Key.TheVariants.{Enter}
+use Rattle.ibos_kinds.specs.Keyboard.{key_breaks}
+use Rattle.ibos_kinds.specs.Screens.{space}
 use Rattle.ibos_page.specs.declared.tabs.Moved.{Moved}
 use Rattle.ibos_page.specs.declared.tabs.Moved.TheVariants.{Same, New}
 use Rattle.ibos_origin.specs.Hosts.{HostTable}
 use Rattle.ibos_origin.specs.Pages.{Page, allowed}
-use Rattle.ibos_page.specs.Tabs.{TabTable, seat_at, live_at, start_in, go_in, opened, moved, closed, with_seat, without, admission, origin_with}
+use Rattle.ibos_page.specs.Tabs.{TabTable, seat_at, live_at, active_in, is_live_in, start_in, go_in, opened, moved, closed, with_seat, without, admission, origin_with}
+use Rattle.ibos_frame.specs.Frames.{Frames, content_of, content_at, is_open, chrome_at, seen_at}
+use Rattle.ibos_focus.specs.Focused.{Focused}
+use Rattle.ibos_focus.specs.declared.focus.Spot.{Spot}
+use Rattle.ibos_focus.specs.declared.focus.Spot.TheVariants.{Entry, Content}
 use Rattle.ibos_cookie.specs.Jars.{OriginJar, jar_of}
 use Rattle.ibos_model.specs.Journal.{is_ok}
-use Rattle.ibos_model.specs.Rows.{accepted, denied, answer, open_row, close_row}
+use Rattle.ibos_model.specs.Focus.{at_entry_by, entry_by}
+use Rattle.ibos_model.specs.Screen.{cell_by, state_text, bar_text, entry_text, padded, seen_row}
+use Rattle.ibos_model.specs.Rows.{accepted, denied, answer, open_row, close_row, page_key_row, click_row, look_row, draw_row}
+
+-- what acts read and change
+pub record Parts : Type 0 where
+  pub hosts : HostTable
+  pub tabs : TabTable
+  pub jars : List OriginJar
+  pub frames : Frames
+  pub focus : Focused
 
 pub record Tables : Type 0 where
   pub hosts : HostTable
   pub tabs : TabTable
   pub jars : List OriginJar
+  pub frames : Frames
+  pub focus : Focused
   -- how many acts there have been
   pub acts : ℕ
   -- no want of memory has ended the kernel
   pub usable : Bool
+
+abbrev pub parts_of : Tables → Parts
+parts_of t = record { hosts = t.hosts; tabs = t.tabs; jars = t.jars; frames = t.frames; focus = t.focus }
+
+-- ---- the screen beside the tabs
+
+abbrev pub is_live : TabTable → Instance → Bool
+is_live t who = is_live_in who (seat_at t who.tab)
+
+abbrev pub is_entry : Spot → Bool
+is_entry Entry = true
+is_entry Content = false
+
+abbrev pub spot_of : Bool → Spot
+spot_of at_entry = if at_entry then Entry else Content
+
+abbrev pub url_with : Option Page → List ℕ
+url_with None = []
+url_with (Some page) = page.url
+
+abbrev pub bar_at : TabTable → Option Instance → List ℕ
+bar_at t None = []
+bar_at t (Some who) = bar_text (url_with (seat_at t who.tab).page)
+
+-- the texts of rows 0 to 2
+abbrev pub chrome_by : TabTable → Focused → ℕ → List ℕ
+chrome_by t f zero = state_text (active_in t) (is_entry f.spot)
+chrome_by t f (suc zero) = bar_at t (active_in t)
+chrome_by t f (suc (suc r)) = entry_text f.entry
+
+-- the instances that live have a content
+abbrev pub IsOpenWhereLive : TabTable → Frames → Type 0
+IsOpenWhereLive t frames = (q : Instance) → is_open frames q ≡ is_live t q
+
+-- the screen shows the chrome's texts, and the content of the active instance
+pub record IsComposed (t : TabTable) (frames : Frames) (focus : Focused) : Type 0 where
+  pub shown : frames.shown ≡ active_in t
+  pub chrome : (r : ℕ) → r < 3 → chrome_at frames r ≡ padded (chrome_by t focus r)
+
+-- the contents beside the 64 tabs, whose live instances are the newest
+pub record IsBeside (t : TabTable) (frames : Frames) : Type 0 where
+  pub room : length t.seats ≡ 64
+  pub newest : (tab : ℕ) (who : Instance) → live_at t tab ≡ Some who → who.ord + 1 ≡ (seat_at t tab).count
+  pub open : IsOpenWhereLive t frames
+
+-- what the parts of the screen have to do with the tabs
+pub record IsTied (t : TabTable) (frames : Frames) (focus : Focused) : Type 0 where
+  pub beside : IsBeside t frames
+  pub composed : IsComposed t frames focus
+  pub entry : t.active ≡ None → focus.spot ≡ Entry
+
+-- contents go with their instances: those that started have an empty one, and those that stayed keep theirs
+pub record Follows (old new : TabTable) (before after : Frames) : Type 0 where
+  pub open : IsOpenWhereLive new after
+  pub kept : (q : Instance) → is_live old q ≡ true → is_live new q ≡ true → content_of after q ≡ content_of before q
+  pub blank : (q : Instance) (r c : ℕ) → r < 22 → c < 80 → is_live old q ≡ false → is_live new q ≡ true → content_at after q r c ≡ space
 
 -- the origin of an instance that lives
 abbrev pub origin_at : TabTable → Instance → List ℕ
@@ -54,11 +130,27 @@ abbrev pub go_at : TabTable → Instance → Result Page Rule → Outcome
 go_at t who (Ok page) = gone_by who page (go_in who (origin_at t who) page)
 go_at t who (Err rule) = denied rule
 
+-- Enter at the entry line
+abbrev pub enter_at : TabTable → Option Instance → Result Page Rule → Outcome
+enter_at t None r = denied U10
+enter_at t (Some who) r = go_at t who r
+
+abbrev pub entry_key_at : HostTable → TabTable → List ℕ → Key → Outcome
+entry_key_at H t entry Enter = enter_at t (active_in t) (allowed H entry)
+entry_key_at H t entry key = answer (key_breaks entry key)
+
+abbrev pub press_at : HostTable → TabTable → Focused → Key → Outcome
+press_at H t f key = if is_entry f.spot then entry_key_at H t f.entry key else page_key_row (active_in t) key
+
 -- the outcome of an act, by the tables
-abbrev pub row : Tables → Act → Outcome
+abbrev pub row : Parts → Act → Outcome
 row t (Start tab url) = started_by (start_in t.tabs tab) (allowed t.hosts url)
 row t (Switch tab) = if is_some (seat_at t.tabs tab).page then accepted [] else denied U2
 row t (Close tab) = close_row (live_at t.tabs tab)
+row t (Press key) = press_at t.hosts t.tabs t.focus key
+row t (Click r c) = click_row (active_in t.tabs) r c
+row t Look = look_row (seen_row (seen_at t.frames))
+row t (Draw who r c height width pixels) = let_in (admission t.tabs who) (draw_row r c height width pixels)
 row t (Go who url) = let_in (admission t.tabs who) (go_at t.tabs who (allowed t.hosts url))
 row t (CookieSet side who text) = let_in (admission t.tabs who) (answer (set_breaks text (jar_of t.jars (origin_at t.tabs who))))
 row t (CookieGet side who) = let_in (admission t.tabs who) (get_at t.jars (origin_at t.tabs who) who)
@@ -72,21 +164,79 @@ abbrev pub with_gone : TabTable → Instance → Result Page Rule → TabTable
 with_gone t who (Ok page) = with_seat t who.tab (if bytes_eq page.origin (origin_at t who) then moved page (seat_at t who.tab) else opened page (seat_at t who.tab))
 with_gone t who (Err rule) = t
 
+-- the active instance goes to a page
+abbrev pub with_entered : TabTable → Option Instance → Result Page Rule → TabTable
+with_entered t None r = t
+with_entered t (Some who) r = with_gone t who r
+
+abbrev pub with_pressed : HostTable → TabTable → Focused → Bool → Key → TabTable
+with_pressed H t f ok Enter = if ok && is_entry f.spot then with_entered t (active_in t) (allowed H f.entry) else t
+with_pressed H t f ok key = t
+
 -- the tabs after an act, if it is accepted
-abbrev pub tabs_after : Tables → Bool → Act → TabTable
+abbrev pub tabs_after : Parts → Bool → Act → TabTable
 tabs_after t ok (Start tab url) = if ok then with_started t.tabs tab (allowed t.hosts url) else t.tabs
 tabs_after t ok (Switch tab) = if ok then record t.tabs { active = Some tab } else t.tabs
 tabs_after t ok (Close tab) = if ok then record (with_seat t.tabs tab (closed (seat_at t.tabs tab))) { active = without tab t.tabs.active } else t.tabs
+tabs_after t ok (Press key) = with_pressed t.hosts t.tabs t.focus ok key
 tabs_after t ok (Go who url) = if ok then with_gone t.tabs who (allowed t.hosts url) else t.tabs
 tabs_after t ok other = t.tabs
 
 -- the jar of an origin after an act, if it is accepted
-abbrev pub jar_after : Tables → Bool → Act → List ℕ → List Cookie
+abbrev pub jar_after : Parts → Bool → Act → List ℕ → List Cookie
 jar_after t ok (CookieSet side who text) o = if ok && bytes_eq (origin_at t.tabs who) o then put (cookie_in text) (jar_of t.jars o) else jar_of t.jars o
 jar_after t ok other o = jar_of t.jars o
 
--- an act's outcome and the tables after it
-pub record Serves (t : Tables) (act : Act) (outcome : Outcome) (tabs : TabTable) (jars : List OriginJar) : Type 0 where
-  pub told : outcome ≡ row t act
-  pub tabs_are : tabs ≡ tabs_after t (is_ok outcome.head) act
-  pub jars_are : (o : List ℕ) → jar_of jars o ≡ jar_after t (is_ok outcome.head) act o
+-- where keys go and what is typed after an act, if it is accepted
+abbrev pub focus_by : Option ℕ → Focused → Bool → Act → Focused
+focus_by active f ok act = record {
+  entry = entry_by (is_entry f.spot) ok act f.entry;
+  spot = spot_of (at_entry_by active ok act (is_entry f.spot));
+}
+
+abbrev pub focus_after : Parts → Bool → Act → Focused
+focus_after t ok act = focus_by t.tabs.active t.focus ok act
+
+-- a cell of an instance that lives after an act, if that is accepted: one that started has spaces
+abbrev pub cell_after : Parts → Bool → Act → Instance → ℕ → ℕ → ℕ
+cell_after t ok act q r c = cell_by q r c ok act (if is_live t.tabs q then content_at t.frames q r c else space)
+
+-- the act is one after which the chrome or the instance shown may be others
+abbrev pub composes : Act → Bool
+composes (Start tab url) = true
+composes (Switch tab) = true
+composes (Close tab) = true
+composes (Press key) = true
+composes (Click row col) = true
+composes (Go who url) = true
+composes other = false
+
+-- what an act leaves of the screen and the tabs that it does not change
+pub record Leaves (old new : Parts) : Type 0 where
+  pub tabs : new.tabs ≡ old.tabs
+  pub focus : new.focus ≡ old.focus
+  pub shown : new.frames.shown ≡ old.frames.shown
+  pub chrome : new.frames.chrome ≡ old.frames.chrome
+
+-- an act's outcome and the parts after it, before the screen is composed anew
+pub record Makes (old : Parts) (act : Act) (outcome : Outcome) (new : Parts) : Type 0 where
+  pub told : outcome ≡ row old act
+  pub hosts_are : new.hosts ≡ old.hosts
+  pub tabs_are : new.tabs ≡ tabs_after old (is_ok outcome.head) act
+  pub jars_are : (o : List ℕ) → jar_of new.jars o ≡ jar_after old (is_ok outcome.head) act o
+  pub focus_is : new.focus ≡ focus_after old (is_ok outcome.head) act
+  pub open : IsOpenWhereLive new.tabs new.frames
+  pub cells_are : (q : Instance) (r c : ℕ) → r < 22 → c < 80 → is_live new.tabs q ≡ true
+      → content_at new.frames q r c ≡ cell_after old (is_ok outcome.head) act q r c
+  pub leaves : composes act ≡ false → Leaves old new
+
+-- the same, with the screen composed
+pub record Serves (old : Parts) (act : Act) (outcome : Outcome) (new : Parts) : Type 0 where
+  pub told : outcome ≡ row old act
+  pub hosts_are : new.hosts ≡ old.hosts
+  pub tabs_are : new.tabs ≡ tabs_after old (is_ok outcome.head) act
+  pub jars_are : (o : List ℕ) → jar_of new.jars o ≡ jar_after old (is_ok outcome.head) act o
+  pub focus_is : new.focus ≡ focus_after old (is_ok outcome.head) act
+  pub cells_are : (q : Instance) (r c : ℕ) → r < 22 → c < 80 → is_live new.tabs q ≡ true
+      → content_at new.frames q r c ≡ cell_after old (is_ok outcome.head) act q r c
+  pub tied : IsTied new.tabs new.frames new.focus

@@ -1,40 +1,41 @@
 // One step.
-ghost use Rattle.std.specs.Prelude.{◌≡◌, ◌<◌, ◌+◌, ◌^◌, [], ◌∷◌, true, is_ok, IfOk, OnOk};
+ghost use Rattle.std.specs.Prelude.{◌≡◌, ℕ, ◌<◌, ◌+◌, ◌*◌, ◌^◌, [], ◌∷◌, true, is_ok, length, slice_index, IfOk, OnOk};
 ghost use Rattle.ibos_kinds.specs.Limits.{Fits};
 
-use crate::cookies::{get, set};
-use crate::tabs::{close, go, start, switch};
+use crate::parts::Parts;
 use ibos_cookie::Jars;
-use ibos_kinds::{Act, Head, Memory, Outcome};
+use ibos_focus::Focus;
+use ibos_frame::Screen;
+use ibos_kinds::{Act, Memory, Outcome};
 use ibos_origin::Hosts;
 use ibos_page::Tabs;
-use ibos_route::admit;
 use std::alloc::Global;
 use std::marker::Model;
 
-/// The kernel of one run: its host table, tabs and jars.
+/// The kernel of one run: its host table, tabs, jars, screen and focus.
 #[derive(Drop)]
 pub struct Kernel {
-    hosts: Hosts,
-    tabs: Tabs,
-    jars: Jars,
+    parts: Parts,
     acts: u32,
     usable: bool,
 }
 
 impl Model for Kernel {
-    ghost use Rattle.ibos_kernel.specs.Tables.{Tables};
+    ghost use Rattle.std.specs.Prelude.{◌≡◌, true};
+    ghost use Rattle.ibos_kernel.specs.Tables.{Tables, IsTied};
 
     ghost Value = { Tables };
 
-    ghost view = { λ k. record { hosts = k.hosts; tabs = k.tabs; jars = k.jars; acts = k.acts; usable = k.usable } };
+    ghost view = { λ k. record { hosts = k.parts.hosts; tabs = k.parts.tabs; jars = k.parts.jars; frames = k.parts.frames; focus = k.parts.focus; acts = k.acts; usable = k.usable } };
+
+    ghost invariant = { λ k. k.usable ≡ true → IsTied k.parts.tabs k.parts.frames k.parts.focus };
 }
 
 impl Kernel {
     ghost use Rattle.ibos_model.specs.Journal.{Journal};
     ghost use Rattle.ibos_model.specs.Rows.{out as outcome_of};
     ghost use Rattle.ibos_model.specs.Laws.{IsCarried};
-    ghost use Rattle.ibos_kernel.specs.Tables.{Serves};
+    ghost use Rattle.ibos_model.specs.Screen.{screen};
     ghost use Rattle.ibos_kernel.specs.Standing.{Stands, entry};
 
     /// A kernel that has made no act, over a host table.
@@ -45,10 +46,17 @@ impl Kernel {
         ensures acts { IfOk result (λ kernel. kernel.acts ≡ 0) }
     {
         let tabs = Tabs::new(alloc)?;
-        Ok(Kernel {
+        let screen = Screen::new(alloc)?;
+        let mut parts = Parts {
             hosts,
             tabs,
             jars: Jars::new(alloc),
+            screen,
+            focus: Focus::new(),
+        };
+        parts.compose();
+        Ok(Kernel {
+            parts,
             acts: 0,
             usable: true,
         })
@@ -86,7 +94,7 @@ impl Kernel {
         ensures usable { self.new.usable ≡ is_ok result }
     {
         out.clear();
-        match self.serve(alloc, act, out) {
+        match self.parts.serve(alloc, act, out) {
             Ok(()) => {
                 self.acts += 1;
                 Ok(())
@@ -98,58 +106,13 @@ impl Kernel {
         }
     }
 
-    fn serve(&mut self, alloc: Global, act: &Act, out: &mut Outcome) -> Result<(), Memory>
-        requires fits { Fits act.now }
-        requires head { out.old.head ≡ Head.Ok }
-        requires items { out.old.items ≡ [] }
-        ensures serves { OnOk result (Serves self.old act.now out.new self.new.tabs self.new.jars) }
-        ensures hosts { self.new.hosts ≡ self.old.hosts }
-        ensures acts { self.new.acts ≡ self.old.acts }
-        ensures usable { self.new.usable ≡ self.old.usable }
+    /// The screen's 2,000 pixels, row by row: whatever journal the kernel stands for, they are that
+    /// journal's screen. Takes no memory.
+    pub fn pixels(&self) -> &[u8]
+        ensures count { length result.now ≡ 2000 }
+        ensures screen { (J : Journal) → Stands J self.now → (r c : ℕ) → r < 25 → c < 80
+            → slice_index result.now (80 * r + c) ≡ screen self.now.hosts J r c }
     {
-        if let Err(rule) = admit(&self.tabs, act) {
-            out.head = Head::Denied(rule);
-            return Ok(());
-        }
-        match act {
-            Act::Start { tab, url } => {
-                start(
-                    &mut self.tabs,
-                    &self.hosts,
-                    alloc,
-                    *tab,
-                    url.as_slice(),
-                    out,
-                )?;
-                Ok(())
-            }
-            Act::Switch { tab } => {
-                switch(&mut self.tabs, *tab, out);
-                Ok(())
-            }
-            Act::Close { tab } => {
-                close(&mut self.tabs, *tab, out)?;
-                Ok(())
-            }
-            Act::Go { who, url } => {
-                go(
-                    &mut self.tabs,
-                    &self.hosts,
-                    alloc,
-                    *who,
-                    url.as_slice(),
-                    out,
-                )?;
-                Ok(())
-            }
-            Act::CookieSet { who, text, .. } => {
-                set(&mut self.jars, self.tabs.origin(*who), text.as_slice(), out)?;
-                Ok(())
-            }
-            Act::CookieGet { who, .. } => {
-                get(&self.jars, alloc, self.tabs.origin(*who), *who, out)?;
-                Ok(())
-            }
-        }
+        self.parts.screen.pixels()
     }
 }

@@ -4,8 +4,9 @@ ghost use Rattle.ibos_model.specs.Journal.{is_ok};
 ghost use Rattle.ibos_model.specs.Rows.{accepted, denied, close_row};
 ghost use Rattle.ibos_origin.specs.Pages.{allowed};
 ghost use Rattle.ibos_page.specs.Tabs.{seat_at, live_at, start_in, closed, with_seat, without};
-ghost use Rattle.ibos_kernel.specs.Tables.{started_by, with_started, go_at, with_gone};
+ghost use Rattle.ibos_kernel.specs.Tables.{started_by, with_started, go_at, with_gone, IsBeside, Follows};
 
+use ibos_frame::Screen;
 use ibos_kinds::{Bytes, Head, Instance, Item, Memory, Outcome, Rule};
 use ibos_origin::{Hosts, Page, UrlFault};
 use ibos_page::{Moved, Tabs};
@@ -22,6 +23,7 @@ fn url_of(alloc: Global, page: &Page) -> Result<Bytes, Memory>
 /// The user opens a URL in a tab.
 pub fn start(
     tabs: &mut Tabs,
+    screen: &mut Screen,
     hosts: &Hosts,
     alloc: Global,
     tab: u8,
@@ -29,10 +31,12 @@ pub fn start(
     out: &mut Outcome,
 ) -> Result<(), Memory>
     requires tab { tab < 64 }
+    requires beside { IsBeside tabs.old screen.old }
     requires head { out.old.head ≡ Head.Ok }
     requires items { out.old.items ≡ [] }
     ensures told { OnOk result (out.new ≡ started_by (start_in tabs.old tab) (allowed hosts.now url.now)) }
     ensures tabs { OnOk result (tabs.new ≡ (if is_ok out.new.head then with_started tabs.old tab (allowed hosts.now url.now) else tabs.old)) }
+    ensures follows { OnOk result (Follows tabs.old tabs.new screen.old screen.new) }
 {
     let who = match tabs.may_start(tab) {
         Ok(who) => who,
@@ -45,6 +49,7 @@ pub fn start(
         Ok(page) => {
             let url = url_of(alloc, &page)?;
             out.push(Item::Opened { who, url })?;
+            screen.begin(who)?;
             let _ = tabs.start(tab, page);
             Ok(())
         }
@@ -70,15 +75,23 @@ pub fn switch(tabs: &mut Tabs, tab: u8, out: &mut Outcome)
 }
 
 /// The user closes a tab.
-pub fn close(tabs: &mut Tabs, tab: u8, out: &mut Outcome) -> Result<(), Memory>
+pub fn close(
+    tabs: &mut Tabs,
+    screen: &mut Screen,
+    tab: u8,
+    out: &mut Outcome,
+) -> Result<(), Memory>
     requires tab { tab < 64 }
+    requires beside { IsBeside tabs.old screen.old }
     requires head { out.old.head ≡ Head.Ok }
     requires items { out.old.items ≡ [] }
     ensures told { OnOk result (out.new ≡ close_row (live_at tabs.old tab)) }
     ensures tabs { OnOk result (tabs.new ≡ (if is_ok out.new.head then record (with_seat tabs.old tab (closed (seat_at tabs.old tab))) { active = without tab tabs.old.active } else tabs.old)) }
+    ensures follows { OnOk result (Follows tabs.old tabs.new screen.old screen.new) }
 {
     match tabs.close(tab) {
         Ok(who) => {
+            screen.end(who);
             out.push(Item::Ended { who })?;
             Ok(())
         }
@@ -92,6 +105,7 @@ pub fn close(tabs: &mut Tabs, tab: u8, out: &mut Outcome) -> Result<(), Memory>
 /// A renderer leaves for a URL.
 pub fn go(
     tabs: &mut Tabs,
+    screen: &mut Screen,
     hosts: &Hosts,
     alloc: Global,
     who: Instance,
@@ -99,15 +113,17 @@ pub fn go(
     out: &mut Outcome,
 ) -> Result<(), Memory>
     requires lives { live_at tabs.old who.tab ≡ Some who }
+    requires beside { IsBeside tabs.old screen.old }
     requires head { out.old.head ≡ Head.Ok }
     requires items { out.old.items ≡ [] }
     ensures told { OnOk result (out.new ≡ go_at tabs.old who (allowed hosts.now url.now)) }
     ensures tabs { OnOk result (tabs.new ≡ (if is_ok out.new.head then with_gone tabs.old who (allowed hosts.now url.now) else tabs.old)) }
+    ensures follows { OnOk result (Follows tabs.old tabs.new screen.old screen.new) }
 {
     match Page::read(alloc, hosts, url) {
         Ok(page) => {
             let url = url_of(alloc, &page)?;
-            go_to(tabs, who, page, url, out)?;
+            go_to(tabs, screen, who, page, url, out)?;
             Ok(())
         }
         Err(UrlFault::Denied(rule)) => {
@@ -120,17 +136,20 @@ pub fn go(
 
 fn go_to(
     tabs: &mut Tabs,
+    screen: &mut Screen,
     who: Instance,
     page: Page,
     url: Bytes,
     out: &mut Outcome,
 ) -> Result<(), Memory>
     requires lives { live_at tabs.old who.tab ≡ Some who }
+    requires beside { IsBeside tabs.old screen.old }
     requires url { url ≡ page.url }
     requires head { out.old.head ≡ Head.Ok }
     requires items { out.old.items ≡ [] }
     ensures told { OnOk result (out.new ≡ go_at tabs.old who (Ok page)) }
     ensures tabs { OnOk result (tabs.new ≡ (if is_ok out.new.head then with_gone tabs.old who (Ok page) else tabs.old)) }
+    ensures follows { OnOk result (Follows tabs.old tabs.new screen.old screen.new) }
 {
     match tabs.go(who, page) {
         Ok(Moved::Same) => {
@@ -138,6 +157,8 @@ fn go_to(
             Ok(())
         }
         Ok(Moved::New(next)) => {
+            screen.end(who);
+            screen.begin(next)?;
             out.push(Item::Ended { who })?;
             out.push(Item::Opened { who: next, url })?;
             Ok(())

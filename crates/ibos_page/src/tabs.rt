@@ -1,5 +1,5 @@
 // Tabs and their instances.
-ghost use Rattle.std.specs.Prelude.{◌≡◌, ◌<◌, ◌↔◌, ℕ, length, Some, None, Ok, Err, IfOk, OnOk, OnErr, IsOk, IsNone, is_some, ok_or, IfSome, if◌then◌else◌};
+ghost use Rattle.std.specs.Prelude.{◌≡◌, ◌<◌, ◌+◌, ◌↔◌, ℕ, length, Some, None, Ok, Err, IfOk, OnOk, OnErr, IsOk, IsTrue, IsNone, is_some, ok_or, IfSome, if◌then◌else◌};
 ghost use Rattle.ibos_page.specs.Tabs.{origin_with};
 ghost use Rattle.ibos_page.specs.Tabs as spec;
 
@@ -38,6 +38,7 @@ impl Model for Tabs {
 }
 
 impl Tabs {
+    ghost use Rattle.ibos_kinds.specs.declared.names.Instance.{Instance};
     ghost use Rattle.ibos_page.specs.Tabs.{empty_seat, seat_at, live_at, live_in, active_in, next_at, start_in, opened, moved, closed, with_seat, without, admission, admitted_by, go_in};
 
     /// No tab has had an instance, and none is active. All the room is reserved here.
@@ -165,12 +166,24 @@ impl Tabs {
     pub fn active(&self) -> Option<Instance>
         ensures who { result ≡ active_in self.now }
         ensures none { IsNone result ↔ (self.now.active ≡ None) }
+        ensures lives { IfSome result (λ who. live_at self.now who.tab ≡ Some who) }
+
+        // There are 64 tabs, and a live instance is the newest of its tab.
+        ensures room { length self.now.seats ≡ 64 }
+        ensures newest { (tab : ℕ) (who : Instance) → live_at self.now tab ≡ Some who → who.ord + 1 ≡ (seat_at self.now tab).count }
     {
         let tab = self.active?;
         Some(Instance {
             tab,
             ord: self.pages.count(tab) - 1,
         })
+    }
+
+    /// Whether a tab is the active one.
+    pub fn is_active(&self, tab: u8) -> bool
+        ensures { IsTrue result ↔ (self.now.active ≡ Some tab) }
+    {
+        self.active == Some(tab)
     }
 
     /// The URL that a live instance shows.

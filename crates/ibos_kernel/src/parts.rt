@@ -1,0 +1,273 @@
+// What acts read and change: the host table, the tabs, the jars, the screen and the focus.
+ghost use Rattle.std.specs.Prelude.{◌≡◌, ◌<◌, [], None, Some, OnOk, IfSome};
+ghost use Rattle.ibos_kinds.specs.Limits.{Fits, IsKey};
+ghost use Rattle.ibos_kinds.specs.declared.names.Instance.{Instance};
+ghost use Rattle.ibos_kinds.specs.declared.act.Act.TheVariants.{Start, Switch, Close, Press, Click, Look, Go, Draw, CookieSet, CookieGet};
+ghost use Rattle.ibos_page.specs.Tabs.{live_at, admission};
+ghost use Rattle.ibos_frame.specs.Frames.{content_of};
+ghost use Rattle.ibos_model.specs.Journal.{is_ok};
+ghost use Rattle.ibos_route.specs.Parties.{admission_of};
+ghost use Rattle.ibos_kernel.specs.Tables as spec;
+ghost use Rattle.ibos_kernel.specs.Tables.{Makes, bar_at, IsTied, IsComposed, IsBeside, IsOpenWhereLive, Serves};
+
+use crate::chrome::{Row, bar_row, entry_row, state_row};
+use crate::cookies::{get, set};
+use crate::input::{click, is_accepted, press};
+use crate::screens::look;
+use crate::tabs::{close, go, start, switch};
+use arrayvec::ArrayVec;
+use ibos_cookie::Jars;
+use ibos_focus::{Focus, Spot};
+use ibos_frame::Screen;
+use ibos_kinds::{Act, Bytes, Head, Instance, Key, Memory, Outcome};
+use ibos_origin::Hosts;
+use ibos_page::Tabs;
+use ibos_route::admit;
+use std::alloc::Global;
+use std::marker::Model;
+
+/// What acts read and change.
+#[derive(Drop)]
+pub struct Parts {
+    pub hosts: Hosts,
+    pub tabs: Tabs,
+    pub jars: Jars,
+    pub screen: Screen,
+    pub focus: Focus,
+}
+
+impl Model for Parts {
+    ghost use Rattle.ibos_kernel.specs.Tables as spec;
+
+    ghost Value = { spec.Parts };
+
+    ghost view = { λ p. record { hosts = p.hosts; tabs = p.tabs; jars = p.jars; frames = p.screen; focus = p.focus } };
+}
+
+impl Parts {
+    /// Makes one act, and fills `out`, which is as new, with its outcome.
+    pub fn serve(&mut self, alloc: Global, act: &Act, out: &mut Outcome) -> Result<(), Memory>
+        requires fits { Fits act.now }
+        requires tied { IsTied self.old.tabs self.old.frames self.old.focus }
+        requires head { out.old.head ≡ Head.Ok }
+        requires items { out.old.items ≡ [] }
+        ensures serves { OnOk result (Serves self.old act.now out.new self.new) }
+        ensures hosts { self.new.hosts ≡ self.old.hosts }
+    {
+        if let Err(rule) = admit(&self.tabs, act) {
+            out.head = Head::Denied(rule);
+            return Ok(());
+        }
+        self.make(alloc, act, out)?;
+        if composes(act) {
+            self.compose();
+        }
+        Ok(())
+    }
+
+    fn make(&mut self, alloc: Global, act: &Act, out: &mut Outcome) -> Result<(), Memory>
+        requires fits { Fits act.now }
+        requires admitted { admission_of self.old.tabs act.now ≡ None }
+        requires tied { IsTied self.old.tabs self.old.frames self.old.focus }
+        requires head { out.old.head ≡ Head.Ok }
+        requires items { out.old.items ≡ [] }
+        ensures makes { OnOk result (Makes self.old act.now out.new self.new) }
+        ensures hosts { self.new.hosts ≡ self.old.hosts }
+    {
+        match act {
+            Act::Start { tab, url } => self.start(alloc, *tab, url, out)?,
+            Act::Switch { tab } => self.switch(*tab, out),
+            Act::Close { tab } => self.close(*tab, out)?,
+            Act::Press { key } => self.press(alloc, *key, out)?,
+            Act::Click { row, col } => self.click(*row, *col, out)?,
+            Act::Look => look(&self.screen, alloc, out)?,
+            Act::Go { who, url } => self.go(alloc, *who, url, out)?,
+            Act::Draw {
+                who,
+                row,
+                col,
+                height,
+                width,
+                pixels,
+            } => {
+                if let Err(rule) = self.screen.draw(
+                    *who,
+                    *row,
+                    *col,
+                    *height,
+                    *width,
+                    pixels.as_slice(),
+                ) {
+                    out.head = Head::Denied(rule);
+                }
+            }
+            Act::CookieSet { who, text, .. } => {
+                set(&mut self.jars, self.tabs.origin(*who), text.as_slice(), out)?;
+            }
+            Act::CookieGet { who, .. } => {
+                get(&self.jars, alloc, self.tabs.origin(*who), *who, out)?;
+            }
+        }
+        Ok(())
+    }
+
+    // Writes the chrome's rows, and shows the content of the active instance.
+    pub fn compose(&mut self)
+        requires open { IsOpenWhereLive self.old.tabs self.old.frames }
+        ensures hosts { self.new.hosts ≡ self.old.hosts }
+        ensures tabs { self.new.tabs ≡ self.old.tabs }
+        ensures jars { self.new.jars ≡ self.old.jars }
+        ensures focus { self.new.focus ≡ self.old.focus }
+        ensures contents { (q : Instance) → content_of self.new.frames q ≡ content_of self.old.frames q }
+        ensures composed { IsComposed self.new.tabs self.new.frames self.new.focus }
+        ensures beside { IsBeside self.new.tabs self.new.frames }
+    {
+        let active = self.tabs.active();
+        self.screen.show(active);
+        self.screen
+            .chrome(0, state_row(active, self.focus.spot()).as_slice());
+        self.screen
+            .chrome(1, address_row(&self.tabs, active).as_slice());
+        self.screen
+            .chrome(2, entry_row(self.focus.entry()).as_slice());
+    }
+
+    fn start(
+        &mut self,
+        alloc: Global,
+        tab: u8,
+        url: &Bytes,
+        out: &mut Outcome,
+    ) -> Result<(), Memory>
+        requires tab { tab < 64 }
+        requires tied { IsTied self.old.tabs self.old.frames self.old.focus }
+        requires head { out.old.head ≡ Head.Ok }
+        requires items { out.old.items ≡ [] }
+        ensures makes { OnOk result (Makes self.old (Start tab url.now) out.new self.new) }
+        ensures hosts { self.new.hosts ≡ self.old.hosts }
+    {
+        start(
+            &mut self.tabs,
+            &mut self.screen,
+            &self.hosts,
+            alloc,
+            tab,
+            url.as_slice(),
+            out,
+        )?;
+        if is_accepted(out) {
+            self.focus.to(Spot::Content);
+        }
+        Ok(())
+    }
+
+    fn switch(&mut self, tab: u8, out: &mut Outcome)
+        requires tab { tab < 64 }
+        requires tied { IsTied self.old.tabs self.old.frames self.old.focus }
+        requires head { out.old.head ≡ Head.Ok }
+        requires items { out.old.items ≡ [] }
+        ensures makes { Makes self.old (Switch tab) out.new self.new }
+        ensures hosts { self.new.hosts ≡ self.old.hosts }
+    {
+        switch(&mut self.tabs, tab, out);
+        if is_accepted(out) {
+            self.focus.to(Spot::Content);
+        }
+    }
+
+    fn close(&mut self, tab: u8, out: &mut Outcome) -> Result<(), Memory>
+        requires tab { tab < 64 }
+        requires tied { IsTied self.old.tabs self.old.frames self.old.focus }
+        requires head { out.old.head ≡ Head.Ok }
+        requires items { out.old.items ≡ [] }
+        ensures makes { OnOk result (Makes self.old (Close tab) out.new self.new) }
+        ensures hosts { self.new.hosts ≡ self.old.hosts }
+    {
+        let was_active = self.tabs.is_active(tab);
+        close(&mut self.tabs, &mut self.screen, tab, out)?;
+        if is_accepted(out) && was_active {
+            self.focus.to(Spot::Entry);
+        }
+        Ok(())
+    }
+
+    fn press(&mut self, alloc: Global, key: Key, out: &mut Outcome) -> Result<(), Memory>
+        requires key { IsKey key }
+        requires tied { IsTied self.old.tabs self.old.frames self.old.focus }
+        requires head { out.old.head ≡ Head.Ok }
+        requires items { out.old.items ≡ [] }
+        ensures makes { OnOk result (Makes self.old (Press key) out.new self.new) }
+        ensures hosts { self.new.hosts ≡ self.old.hosts }
+    {
+        press(
+            &mut self.tabs,
+            &mut self.screen,
+            &mut self.focus,
+            &self.hosts,
+            alloc,
+            key,
+            out,
+        )?;
+        Ok(())
+    }
+
+    fn click(&mut self, row: u32, col: u32, out: &mut Outcome) -> Result<(), Memory>
+        requires tied { IsTied self.old.tabs self.old.frames self.old.focus }
+        requires head { out.old.head ≡ Head.Ok }
+        requires items { out.old.items ≡ [] }
+        ensures makes { OnOk result (Makes self.old (Click row col) out.new self.new) }
+        ensures hosts { self.new.hosts ≡ self.old.hosts }
+    {
+        let active = self.tabs.active();
+        click(&mut self.focus, active, row, col, out)?;
+        Ok(())
+    }
+
+    fn go(
+        &mut self,
+        alloc: Global,
+        who: Instance,
+        url: &Bytes,
+        out: &mut Outcome,
+    ) -> Result<(), Memory>
+        requires admitted { admission self.old.tabs who ≡ None }
+        requires tied { IsTied self.old.tabs self.old.frames self.old.focus }
+        requires head { out.old.head ≡ Head.Ok }
+        requires items { out.old.items ≡ [] }
+        ensures makes { OnOk result (Makes self.old (Go who url.now) out.new self.new) }
+        ensures hosts { self.new.hosts ≡ self.old.hosts }
+    {
+        go(
+            &mut self.tabs,
+            &mut self.screen,
+            &self.hosts,
+            alloc,
+            who,
+            url.as_slice(),
+            out,
+        )?;
+        Ok(())
+    }
+}
+
+// Row 1: the URL of the active instance.
+fn address_row(tabs: &Tabs, active: Option<Instance>) -> Row
+    requires { IfSome active (λ who. live_at tabs.now who.tab ≡ Some who) }
+    ensures { result.items ≡ bar_at tabs.now active }
+{
+    match active {
+        Some(who) => bar_row(tabs.url(who)),
+        None => ArrayVec::new(),
+    }
+}
+
+// Whether the chrome or the instance shown may be others after an act.
+fn composes(act: &Act) -> bool
+    ensures { result ≡ spec.composes act.now }
+{
+    match act {
+        Act::Start { .. } | Act::Switch { .. } | Act::Close { .. } => true,
+        Act::Press { .. } | Act::Click { .. } | Act::Go { .. } => true,
+        Act::Look | Act::Draw { .. } | Act::CookieSet { .. } | Act::CookieGet { .. } => false,
+    }
+}
