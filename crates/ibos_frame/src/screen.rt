@@ -6,7 +6,7 @@ ghost use Rattle.ibos_kinds.specs.Screens.{space, is_pixel, draw_breaks, cell_af
 ghost use Rattle.ibos_kinds.specs.Screens as spec;
 ghost use Rattle.ibos_frame.specs.Frames.{answer_of, padded, body_of, content_in};
 
-use crate::content::{COLUMNS, Content, SPACE};
+use crate::content::{COLUMNS, Content, SPACE, spaces};
 use crate::contents::Contents;
 use ibos_kinds::{Instance, Memory, Rule};
 use std::alloc::Global;
@@ -47,13 +47,11 @@ impl Screen {
         ensures shown { IfOk result (λ screen. screen.shown ≡ None) }
         ensures chrome { IfOk result (λ screen. (r : ℕ) → r < 3 → chrome_at screen r ≡ replicate 80 space) }
     {
-        let mut pixels = Vec::new(alloc);
-        pixels.resize(SCREEN, SPACE)?;
         Ok(Screen {
             alloc,
             contents: Contents::new(alloc),
             shown: None,
-            pixels,
+            pixels: spaces(alloc, SCREEN)?,
         })
     }
 
