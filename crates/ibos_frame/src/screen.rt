@@ -1,4 +1,4 @@
-// The rows that are seen.
+// The contents of all instances, and what of them is seen.
 ghost use Rattle.std.specs.Prelude.{◌≡◌, ◌≢◌, ◌↔◌, ℕ, ◌+◌, ◌*◌, ◌<◌, ◌≤◌, ◌++◌, length, take, replicate, slice_index, true, false, None, Some, IfOk, OnOk, OnErr, IfSome, IsTrue};
 ghost use Rattle.std.specs.List.{list_all};
 ghost use Rattle.ibos_kinds.specs.declared.names.Instance.{Instance};
@@ -6,15 +6,12 @@ ghost use Rattle.ibos_kinds.specs.Screens.{space, is_pixel, draw_breaks, cell_af
 ghost use Rattle.ibos_kinds.specs.Screens as spec;
 ghost use Rattle.ibos_frame.specs.Frames.{answer_of, padded, body_of, content_in};
 
-use crate::content::{COLUMNS, Content, SPACE, spaces};
+use crate::content::Content;
 use crate::contents::Contents;
+use crate::rows::Rows;
 use ibos_kinds::{Instance, Memory, Rule};
 use std::alloc::Global;
 use std::marker::Model;
-
-const SCREEN: usize = 25 * COLUMNS;
-
-const CHROME: usize = 3 * COLUMNS;
 
 /// The screen of 25 rows of 80 pixels, each a printable byte of ASCII: three rows of chrome, and then the
 /// content of the instance that was shown last, as long as it has not ended, or else spaces. A content has
@@ -24,18 +21,19 @@ pub struct Screen {
     alloc: Global,
     contents: Contents,
     shown: Option<Instance>,
-    // What is seen, row by row.
-    pixels: Vec<u8>,
+    rows: Rows,
 }
 
 impl Model for Screen {
-    ghost use Rattle.ibos_frame.specs.Frames.{Frames, frames_of, IsComposed};
+    ghost use Rattle.std.specs.Prelude.{◌≡◌};
+    ghost use Rattle.ibos_frame.specs.Frames.{Frames, body_of};
 
     ghost Value = { Frames };
 
-    ghost view = { λ s. frames_of s.contents s.shown s.pixels.items };
+    ghost view = { λ s. record { contents = s.contents; shown = s.shown; chrome = s.rows.chrome } };
 
-    ghost invariant = { λ s. IsComposed s.contents s.shown s.pixels.items };
+    // What is shown is what is seen below the chrome.
+    ghost invariant = { λ s. s.rows.body ≡ body_of s.contents s.shown };
 }
 
 impl Screen {
@@ -51,7 +49,7 @@ impl Screen {
             alloc,
             contents: Contents::new(alloc),
             shown: None,
-            pixels: spaces(alloc, SCREEN)?,
+            rows: Rows::new(alloc)?,
         })
     }
 
@@ -82,7 +80,7 @@ impl Screen {
         self.contents.end(who);
         if is_shown(self.shown, who) {
             self.shown = None;
-            compose(&mut self.pixels, &self.contents, None);
+            self.rows.hide();
         }
     }
 
@@ -123,7 +121,7 @@ impl Screen {
             pixels,
         );
         if is_shown(self.shown, who) {
-            compose(&mut self.pixels, &self.contents, self.shown);
+            self.rows.show(self.contents.pixels(who));
         }
         Ok(())
     }
@@ -136,7 +134,10 @@ impl Screen {
         ensures chrome { self.new.chrome ≡ self.old.chrome }
     {
         self.shown = active;
-        compose(&mut self.pixels, &self.contents, active);
+        match active {
+            Some(who) => self.rows.show(self.contents.pixels(who)),
+            None => self.rows.hide(),
+        }
     }
 
     /// Makes one of rows 0 to 2 a text of at most 80 bytes, padded by spaces. Takes no memory.
@@ -148,8 +149,7 @@ impl Screen {
         ensures contents { (q : Instance) → content_of self.new q ≡ content_of self.old q }
         ensures shown { self.new.shown ≡ self.old.shown }
     {
-        let at = row as usize * COLUMNS;
-        write_line(&mut self.pixels[at..at + COLUMNS], text);
+        self.rows.write(row as usize, text);
     }
 
     /// The 2,000 pixels, row by row. Takes no memory.
@@ -157,7 +157,7 @@ impl Screen {
         ensures count { length result.now ≡ 2000 }
         ensures pixels { (r c : ℕ) → r < 25 → c < 80 → slice_index result.now (80 * r + c) ≡ seen_at self.now r c }
     {
-        self.pixels.as_slice()
+        self.rows.as_slice()
     }
 }
 
@@ -183,27 +183,4 @@ fn are_pixels(pixels: &[u8]) -> bool
     ensures { result ≡ list_all is_pixel pixels.now }
 {
     pixels.iter().all(|&pixel| pixel >= 0x20 && pixel <= 0x7e)
-}
-
-// Makes the rows below the chrome what is shown.
-fn compose(pixels: &mut Vec<u8>, contents: &Contents, shown: Option<Instance>)
-    requires count { length pixels.old.items ≡ 2000 }
-    requires open { IfSome shown (λ who. content_in contents.now who ≢ None) }
-    ensures { pixels.new.items ≡ take 240 pixels.old.items ++ body_of contents.now shown }
-{
-    let rows = &mut pixels[CHROME..];
-    match shown {
-        Some(who) => rows.copy_from_slice(contents.pixels(who)),
-        None => rows.fill(SPACE),
-    }
-}
-
-// Makes a row a text, padded by spaces.
-fn write_line(line: &mut [u8], text: &[u8])
-    requires size { length line.old ≡ 80 }
-    requires fits { length text.now ≤ 80 }
-    ensures { line.new ≡ padded text.now }
-{
-    line[..text.len()].copy_from_slice(text);
-    line[text.len()..].fill(SPACE);
 }
