@@ -2,7 +2,7 @@
 ghost use Rattle.std.specs.Prelude.{◌≡◌, ◌≢◌, ◌↔◌, ℕ, ◌+◌, ◌*◌, ◌<◌, ◌≤◌, ◌++◌, length, take, replicate, slice_index, true, false, None, Some, IfOk, OnOk, OnErr, IfSome, IsTrue};
 ghost use Rattle.std.specs.List.{list_all};
 ghost use Rattle.ibos_kinds.specs.declared.names.Instance.{Instance};
-ghost use Rattle.ibos_kinds.specs.Screens.{space, is_pixel, draw_breaks, cell_after};
+ghost use Rattle.ibos_kinds.specs.Screens.{columns, content_rows, space, is_pixel, draw_breaks, cell_after};
 ghost use Rattle.ibos_kinds.specs.Screens as spec;
 ghost use Rattle.ibos_frame.specs.Frames.{answer_of, padded, body_of, content_in};
 
@@ -106,12 +106,7 @@ impl Screen {
         ensures chrome { self.new.chrome ≡ self.old.chrome }
         ensures err { OnErr result (self.new ≡ self.old) }
     {
-        if !is_region(row, col, height, width, pixels) {
-            return Err(Rule::P3);
-        }
-        if !are_pixels(pixels) {
-            return Err(Rule::P4);
-        }
+        check(row, col, height, width, pixels)?;
         self.contents.draw(
             who,
             row as usize,
@@ -177,6 +172,23 @@ fn is_region(row: u32, col: u32, height: u32, width: u32, pixels: &[u8]) -> bool
         && row as u64 + height <= 22
         && col as u64 + width <= 80
         && pixels.len() as u64 == height * width
+}
+
+// The first rule that a draw breaks.
+#[tactic(auto, unfolding(ibos_kinds::specs::Screens::is_region, ibos_kinds::specs::Screens::draw_breaks))]
+fn check(row: u32, col: u32, height: u32, width: u32, pixels: &[u8]) -> Result<(), Rule>
+    ensures answer { result ≡ answer_of (draw_breaks row col height width pixels.now) }
+    ensures rows { OnOk result (row + height ≤ content_rows) }
+    ensures columns { OnOk result (col + width ≤ columns) }
+    ensures count { OnOk result (length pixels.now ≡ height * width) }
+{
+    if !is_region(row, col, height, width, pixels) {
+        return Err(Rule::P3);
+    }
+    if !are_pixels(pixels) {
+        return Err(Rule::P4);
+    }
+    Ok(())
 }
 
 fn are_pixels(pixels: &[u8]) -> bool
