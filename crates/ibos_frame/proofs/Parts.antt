@@ -1,10 +1,11 @@
 -- The screen's pixels, after its rows below the chrome or one of the chrome's were written.
 use Rattle.std.proofs.Common.{◌≡◌, ◌≢◌, ℕ, ◌+◌, ◌-◌, ◌*◌, ◌<◌, ◌≤◌, Bool, true, false, List, [], length, refl, sym, ◌∙◌, ap, subst, arith, get_or, take, drop, replicate, ◌++◌}
-use Rattle.std.specs.Prelude.{nat_lt}
+use Rattle.std.specs.Prelude.{nat_lt, Option, Some, None, unwrap_or, if◌then◌else◌}
 use Rattle.std.proofs.lemmas.Bool.Decides.{nat_tests}
-use Rattle.std.proofs.lemmas.List.{append-nil, length-append, length-replicate, length-take-le, length-drop, drop_at, drop_all, drop-take, take-take}
+use Rattle.std.proofs.lemmas.List.{append-nil, length-append, length-replicate, length-take-le, length-drop, drop_at, drop_all, drop-take, take-take, drop-replicate, take-replicate, get_or-replicate, get_or-take, get_or-drop, get_or_append_left, get_or-append_right}
 use Rattle.std.proofs.lemmas.Slice.{take-put_mid_below, drop-put_mid, between-put_mid}
-use Rattle.ibos_frame.specs.Frames.{padded}
+use Rattle.ibos_kinds.specs.Screens.{space}
+use Rattle.ibos_frame.specs.Frames.{Frames, padded, shown_content, seen_at, pixel_in, chrome_at}
 use borrow.Rule.Slice.PartMut.{put_mid, post_of}
 
 -- a list whose end was written
@@ -49,3 +50,32 @@ module _ (xs ys : List ℕ) (row a k : ℕ) (at : a ≡ 80 * row) (count : k ≡
 
 pub length-padded : (text : List ℕ) → length text ≤ 80 → length (padded text) ≡ 80
 length-padded text fits = length-append text (replicate (80 - length text) 32) ∙ ap (λ n. length text + n) (length-replicate (80 - length text) 32) ∙ omega (arith, fits)
+
+-- a row of a screen that has spaces alone
+pub line-blank : (r : ℕ) → r < 3 → take 80 (drop (80 * r) (replicate 240 space)) ≡ replicate 80 space
+line-blank r low = ap (λ ws. take 80 ws) (drop-replicate (80 * r) 240 space) ∙ take-replicate 80 (240 - 80 * r) space (omega (arith, low))
+
+-- a pixel of a content that has spaces alone
+pub pixel-blank : (r c : ℕ) → r < 22 → c < 80 → get_or (replicate 1760 space) (80 * r + c) 0 ≡ space
+pixel-blank r c rows columns = get_or-replicate 1760 (80 * r + c) space 0 (omega (arith, rows, columns))
+
+-- a pixel of the screen: it is one of the chrome, or of the content shown
+pub pixel-seen : (f : Frames) (body : List ℕ) → length f.chrome ≡ 240 → body ≡ unwrap_or (shown_content f) (replicate 1760 space)
+    → (r c : ℕ) → r < 25 → c < 80 → get_or (f.chrome ++ body) (80 * r + c) 0 ≡ seen_at f r c
+unfolding seen_at
+pixel-seen f body count is r c rows columns = by_row (nat_lt r 3) refl
+  where
+    below : (shown : Option (List ℕ)) → 3 ≤ r → get_or (unwrap_or shown (replicate 1760 space)) (80 * (r - 3) + c) 0 ≡ pixel_in shown (r - 3) c
+    below None high = pixel-blank (r - 3) c (omega (arith, high, rows)) columns
+    below (Some pixels) high = refl
+
+    by_row : (above : Bool) → nat_lt r 3 ≡ above → get_or (f.chrome ++ body) (80 * r + c) 0 ≡ (if above then get_or (chrome_at f r) c 0 else pixel_in (shown_content f) (r - 3) c)
+    by_row true above =
+        let low : r < 3 = grind (arith, nat_tests, above) in
+        let inside : 80 * r + c < length f.chrome = omega (arith, low, columns, count) in
+        get_or_append_left f.chrome body 0 (80 * r + c) inside ∙ sym (get_or-drop (80 * r) f.chrome c 0) ∙ sym (get_or-take 80 (drop (80 * r) f.chrome) c 0 columns)
+    by_row false under =
+        let high : 3 ≤ r = grind (arith, nat_tests, under) in
+        let past : 240 ≤ 80 * r + c = omega (arith, high) in
+        let place : 80 * r + c - 240 ≡ 80 * (r - 3) + c = omega (arith, high) in
+        get_or-append_right f.chrome body 240 (80 * r + c) 0 count past ∙ ap (λ k. get_or body k 0) place ∙ ap (λ xs. get_or xs (80 * (r - 3) + c) 0) is ∙ below (shown_content f) high

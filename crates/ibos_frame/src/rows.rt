@@ -9,6 +9,7 @@ use std::alloc::Global;
 use std::marker::Model;
 
 const SCREEN: usize = 25 * COLUMNS;
+
 const CHROME: usize = 3 * COLUMNS;
 
 /// Three rows of chrome over 22 of content, 80 pixels each, one after the other.

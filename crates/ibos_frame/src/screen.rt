@@ -64,7 +64,8 @@ impl Screen {
         ensures err { OnErr result (self.new ≡ self.old) }
     {
         let content = Content::new(self.alloc)?;
-        self.contents.begin(who, content)
+        self.contents.begin(who, content)?;
+        Ok(())
     }
 
     /// Gives up the content of an instance, and the memory that it had. Where the instance is shown, rows
