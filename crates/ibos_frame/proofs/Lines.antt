@@ -78,7 +78,7 @@ drawn_more old target pixels line row col k width at is narrow within size given
         mid-above target line at width (80 * r + c) within size above
 
     by_row : (here : Bool) → (r == row + k) ≡ here → get_or (put_mid at width target line) (80 * r + c) 0 ≡ cell_after row col (k + 1) width pixels r c (get_or old (80 * r + c) 0)
-    by_row true here = 
+    by_row true here =
         let this : r ≡ row + k = grind (arith, nat_tests, here) in
         rw (covers-line row col k width r c this) (here_by (nat_le col c && nat_lt c (col + width)) this refl)
     by_row false other =

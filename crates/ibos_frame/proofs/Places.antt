@@ -1,8 +1,8 @@
 -- Where the contents of instances stand.
-use Rattle.std.proofs.Common.{◌≡◌, ◌≢◌, ℕ, ◌+◌, ◌*◌, ◌<◌, ◌≤◌, Bool, true, false, List, length, Option, Some, None, refl, sym, ◌∙◌, ap, subst, arith, get_or}
+use Rattle.std.proofs.Common.{◌≡◌, ◌≢◌, ℕ, ◌+◌, ◌*◌, ◌<◌, ◌≤◌, Bool, true, false, List, [], length, Option, Some, None, refl, sym, ◌∙◌, ap, subst, arith, get_or}
 use Rattle.std.specs.Prelude.{nat_lt, slice_set, if◌then◌else◌}
 use Rattle.std.proofs.lemmas.Bool.Decides.{nat_tests}
-use Rattle.std.proofs.lemmas.List.{get_or-set_same, get_or-set_other}
+use Rattle.std.proofs.lemmas.List.{get_or-set_same, get_or-set_other, get_or_read}
 use Rattle.std.proofs.Math.ListN.{get_or-eq_default}
 use Rattle.ibos_kinds.specs.declared.names.Instance.{Instance}
 use Rattle.ibos_frame.specs.Frames.{place_of, content_in}
@@ -21,25 +21,26 @@ same_place p q below under e =
     let G : ℕ → Instance = λ o. record { tab = q.tab; ord = o } in
     ap F tab ∙ ap G ord
 
-pub content-set_same : (contents : List (Option (List ℕ))) (who : Instance) (x : Option (List ℕ)) → who.tab < 256 → place_of who < length contents → content_in (slice_set contents (place_of who) x) who ≡ x
-content-set_same contents who x tab within = content-at (slice_set contents (place_of who) x) who tab ∙ get_or-set_same contents (place_of who) x None within
+pub content-set_same : (contents : List (Option (List ℕ))) (who : Instance) (at : ℕ) (x : Option (List ℕ)) → at ≡ place_of who → who.tab < 256 → at < length contents → content_in (slice_set contents at x) who ≡ x
+content-set_same contents who at x is tab within =
+    content-at (slice_set contents at x) who tab ∙ ap (λ k. get_or (slice_set contents at x) k None) (sym is) ∙ get_or-set_same contents at x None within
 
-pub content-set_other : (contents : List (Option (List ℕ))) (who q : Instance) (x : Option (List ℕ)) → who.tab < 256 → q ≢ who → content_in (slice_set contents (place_of who) x) q ≡ content_in contents q
+pub content-set_other : (contents : List (Option (List ℕ))) (who q : Instance) (at : ℕ) (x : Option (List ℕ)) → at ≡ place_of who → who.tab < 256 → q ≢ who → content_in (slice_set contents at x) q ≡ content_in contents q
 unfolding content_in
-content-set_other contents who q x tab other = by_tab (nat_lt q.tab 256) refl
+content-set_other contents who q at x is tab other = by_tab (nat_lt q.tab 256) refl
   where
-    by_tab : (low : Bool) → nat_lt q.tab 256 ≡ low → (if low then get_or (slice_set contents (place_of who) x) (place_of q) None else None) ≡ (if low then get_or contents (place_of q) None else None)
+    by_tab : (low : Bool) → nat_lt q.tab 256 ≡ low → (if low then get_or (slice_set contents at x) (place_of q) None else None) ≡ (if low then get_or contents (place_of q) None else None)
     by_tab false high = refl
-    by_tab true low = let below : q.tab < 256 = grind (arith, nat_tests) in get_or-set_other contents (place_of who) (place_of q) x None (λ e. other (same_place q who below tab e))
+    by_tab true low = let below : q.tab < 256 = grind (arith, nat_tests) in get_or-set_other contents at (place_of q) x None (λ e. other (same_place q who below tab (e ∙ is)))
 
 -- an instance with a content has a place in the table
-pub content_within : (contents : List (Option (List ℕ))) (who : Instance) → who.tab < 256 → content_in contents who ≢ None → place_of who < length contents
-content_within contents who tab there = by_test (nat_lt (place_of who) (length contents)) refl
+pub content_within : (contents : List (Option (List ℕ))) (who : Instance) (at : ℕ) → at ≡ place_of who → who.tab < 256 → content_in contents who ≢ None → at < length contents
+content_within contents who at is tab there = by_test (nat_lt at (length contents)) refl
   where
-    by_test : (within : Bool) → nat_lt (place_of who) (length contents) ≡ within → place_of who < length contents
+    by_test : (within : Bool) → nat_lt at (length contents) ≡ within → at < length contents
     by_test true within = grind (arith, nat_tests)
     by_test false past =
-        let out : length contents ≤ place_of who = grind (arith, nat_tests) in
+        let out : length contents ≤ place_of who = grind (arith, nat_tests, past, is) in
         absurd (there (content-at contents who tab ∙ get_or-eq_default contents None out))
 
 -- tables that are equal place by place have the same contents
@@ -49,4 +50,20 @@ content-same contents more same q = by_tab (nat_lt q.tab 256)
   where
     by_tab : (low : Bool) → (if low then get_or more (place_of q) None else None) ≡ (if low then get_or contents (place_of q) None else None)
     by_tab true = same (place_of q)
+    by_tab false = refl
+
+-- what is read at an instance's place
+pub content_read : (contents : List (Option (List ℕ))) (who : Instance) (at : ℕ) (x : Option (List ℕ)) → at ≡ place_of who → who.tab < 256 → at < length contents → x ≡ get_or contents at x → content_in contents who ≡ x
+content_read contents who at x is tab within read =
+    content-at contents who tab ∙ ap (λ k. get_or contents k None) (sym is) ∙ sym (get_or_read contents at x within read None)
+
+pub content-nil : (q : Instance) → content_in [] q ≡ None
+unfolding content_in
+content-nil q = by_tab (nat_lt q.tab 256)
+  where
+    nothing : Option (List ℕ)
+    nothing = None
+
+    by_tab : (low : Bool) → (if low then get_or [] (place_of q) nothing else nothing) ≡ nothing
+    by_tab true = refl
     by_tab false = refl

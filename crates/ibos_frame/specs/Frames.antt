@@ -39,9 +39,13 @@ content_at f who r c = pixel_in (content_of f who) r c
 abbrev pub shown_content : Frames → Option (List ℕ)
 shown_content f = option_and_then (content_of f) f.shown
 
+-- one of the rows that pixels make up
+abbrev pub line_of : List ℕ → ℕ → List ℕ
+line_of pixels r = take columns (drop (columns * r) pixels)
+
 -- row r of 0 to 2
 abbrev pub chrome_at : Frames → ℕ → List ℕ
-chrome_at f r = take columns (drop (columns * r) f.chrome)
+chrome_at f r = line_of f.chrome r
 
 -- a text in a row
 abbrev pub padded : List ℕ → List ℕ
@@ -60,10 +64,7 @@ answer_of (Some rule) = Err rule
 abbrev pub body_of : List (Option (List ℕ)) → Option Instance → List ℕ
 body_of contents shown = unwrap_or (option_and_then (content_in contents) shown) (replicate 1760 space)
 
--- what is kept: the pixels that are seen, of which the first 240 are the chrome's
-abbrev pub frames_of : List (Option (List ℕ)) → Option Instance → List ℕ → Frames
-frames_of contents shown pixels = record { contents = contents; shown = shown; chrome = take 240 pixels }
-
-pub record IsComposed (contents : List (Option (List ℕ))) (shown : Option Instance) (pixels : List ℕ) : Type 0 where
-  pub count : length pixels ≡ 2000
-  pub body : drop 240 pixels ≡ body_of contents shown
+-- the pixels of rows 0 to 2, and of rows 3 to 24
+pub record Seen : Type 0 where
+  pub chrome : List ℕ
+  pub body : List ℕ

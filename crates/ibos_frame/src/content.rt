@@ -33,9 +33,9 @@ impl Content {
     pub(crate) fn new(alloc: Global) -> Result<Content, Memory>
         ensures { IfOk result (λ content. content ≡ replicate 1760 space) }
     {
-        let mut pixels = Vec::new(alloc);
-        pixels.resize(ROWS * COLUMNS, SPACE)?;
-        Ok(Content { pixels })
+        Ok(Content {
+            pixels: spaces(alloc, ROWS * COLUMNS)?,
+        })
     }
 
     /// The pixels.
@@ -62,6 +62,15 @@ impl Content {
     {
         paint(self.pixels.as_mut_slice(), row, col, height, width, pixels);
     }
+}
+
+/// So many spaces.
+pub(crate) fn spaces(alloc: Global, count: usize) -> Result<Vec<u8>, Memory>
+    ensures { IfOk result (λ spaces. spaces.items ≡ replicate count space) }
+{
+    let mut spaces = Vec::new(alloc);
+    spaces.resize(count, SPACE)?;
+    Ok(spaces)
 }
 
 // Writes a region of rows of 80 pixels.

@@ -3,6 +3,7 @@
 
 mod content;
 mod contents;
+mod rows;
 mod screen;
 
 pub use screen::Screen;

@@ -1,20 +1,17 @@
-// The rows that are seen.
+// The contents of all instances, and what of them is seen.
 ghost use Rattle.std.specs.Prelude.{◌≡◌, ◌≢◌, ◌↔◌, ℕ, ◌+◌, ◌*◌, ◌<◌, ◌≤◌, ◌++◌, length, take, replicate, slice_index, true, false, None, Some, IfOk, OnOk, OnErr, IfSome, IsTrue};
 ghost use Rattle.std.specs.List.{list_all};
 ghost use Rattle.ibos_kinds.specs.declared.names.Instance.{Instance};
-ghost use Rattle.ibos_kinds.specs.Screens.{space, is_pixel, draw_breaks, cell_after};
+ghost use Rattle.ibos_kinds.specs.Screens.{columns, content_rows, space, is_pixel, draw_breaks, cell_after};
 ghost use Rattle.ibos_kinds.specs.Screens as spec;
 ghost use Rattle.ibos_frame.specs.Frames.{answer_of, padded, body_of, content_in};
 
-use crate::content::{COLUMNS, Content, SPACE};
+use crate::content::Content;
 use crate::contents::Contents;
+use crate::rows::Rows;
 use ibos_kinds::{Instance, Memory, Rule};
 use std::alloc::Global;
 use std::marker::Model;
-
-const SCREEN: usize = 25 * COLUMNS;
-
-const CHROME: usize = 3 * COLUMNS;
 
 /// The screen of 25 rows of 80 pixels, each a printable byte of ASCII: three rows of chrome, and then the
 /// content of the instance that was shown last, as long as it has not ended, or else spaces. A content has
@@ -24,18 +21,19 @@ pub struct Screen {
     alloc: Global,
     contents: Contents,
     shown: Option<Instance>,
-    // What is seen, row by row.
-    pixels: Vec<u8>,
+    rows: Rows,
 }
 
 impl Model for Screen {
-    ghost use Rattle.ibos_frame.specs.Frames.{Frames, frames_of, IsComposed};
+    ghost use Rattle.std.specs.Prelude.{◌≡◌};
+    ghost use Rattle.ibos_frame.specs.Frames.{Frames, body_of};
 
     ghost Value = { Frames };
 
-    ghost view = { λ s. frames_of s.contents s.shown s.pixels.items };
+    ghost view = { λ s. record { contents = s.contents; shown = s.shown; chrome = s.rows.chrome } };
 
-    ghost invariant = { λ s. IsComposed s.contents s.shown s.pixels.items };
+    // What is shown is what is seen below the chrome.
+    ghost invariant = { λ s. s.rows.body ≡ body_of s.contents s.shown };
 }
 
 impl Screen {
@@ -47,13 +45,11 @@ impl Screen {
         ensures shown { IfOk result (λ screen. screen.shown ≡ None) }
         ensures chrome { IfOk result (λ screen. (r : ℕ) → r < 3 → chrome_at screen r ≡ replicate 80 space) }
     {
-        let mut pixels = Vec::new(alloc);
-        pixels.resize(SCREEN, SPACE)?;
         Ok(Screen {
             alloc,
             contents: Contents::new(alloc),
             shown: None,
-            pixels,
+            rows: Rows::new(alloc)?,
         })
     }
 
@@ -68,7 +64,8 @@ impl Screen {
         ensures err { OnErr result (self.new ≡ self.old) }
     {
         let content = Content::new(self.alloc)?;
-        self.contents.begin(who, content)
+        self.contents.begin(who, content)?;
+        Ok(())
     }
 
     /// Gives up the content of an instance, and the memory that it had. Where the instance is shown, rows
@@ -84,7 +81,7 @@ impl Screen {
         self.contents.end(who);
         if is_shown(self.shown, who) {
             self.shown = None;
-            compose(&mut self.pixels, &self.contents, None);
+            self.rows.hide();
         }
     }
 
@@ -110,12 +107,7 @@ impl Screen {
         ensures chrome { self.new.chrome ≡ self.old.chrome }
         ensures err { OnErr result (self.new ≡ self.old) }
     {
-        if !is_region(row, col, height, width, pixels) {
-            return Err(Rule::P3);
-        }
-        if !are_pixels(pixels) {
-            return Err(Rule::P4);
-        }
+        check(row, col, height, width, pixels)?;
         self.contents.draw(
             who,
             row as usize,
@@ -125,7 +117,7 @@ impl Screen {
             pixels,
         );
         if is_shown(self.shown, who) {
-            compose(&mut self.pixels, &self.contents, self.shown);
+            self.rows.show(self.contents.pixels(who));
         }
         Ok(())
     }
@@ -138,7 +130,10 @@ impl Screen {
         ensures chrome { self.new.chrome ≡ self.old.chrome }
     {
         self.shown = active;
-        compose(&mut self.pixels, &self.contents, active);
+        match active {
+            Some(who) => self.rows.show(self.contents.pixels(who)),
+            None => self.rows.hide(),
+        }
     }
 
     /// Makes one of rows 0 to 2 a text of at most 80 bytes, padded by spaces. Takes no memory.
@@ -150,8 +145,7 @@ impl Screen {
         ensures contents { (q : Instance) → content_of self.new q ≡ content_of self.old q }
         ensures shown { self.new.shown ≡ self.old.shown }
     {
-        let at = row as usize * COLUMNS;
-        write_line(&mut self.pixels[at..at + COLUMNS], text);
+        self.rows.write(row as usize, text);
     }
 
     /// The 2,000 pixels, row by row. Takes no memory.
@@ -159,7 +153,7 @@ impl Screen {
         ensures count { length result.now ≡ 2000 }
         ensures pixels { (r c : ℕ) → r < 25 → c < 80 → slice_index result.now (80 * r + c) ≡ seen_at self.now r c }
     {
-        self.pixels.as_slice()
+        self.rows.as_slice()
     }
 }
 
@@ -181,31 +175,25 @@ fn is_region(row: u32, col: u32, height: u32, width: u32, pixels: &[u8]) -> bool
         && pixels.len() as u64 == height * width
 }
 
+// The first rule that a draw breaks.
+#[tactic(auto, unfolding(ibos_kinds::specs::Screens::is_region, ibos_kinds::specs::Screens::draw_breaks))]
+fn check(row: u32, col: u32, height: u32, width: u32, pixels: &[u8]) -> Result<(), Rule>
+    ensures answer { result ≡ answer_of (draw_breaks row col height width pixels.now) }
+    ensures rows { OnOk result (row + height ≤ content_rows) }
+    ensures columns { OnOk result (col + width ≤ columns) }
+    ensures count { OnOk result (length pixels.now ≡ height * width) }
+{
+    if !is_region(row, col, height, width, pixels) {
+        return Err(Rule::P3);
+    }
+    if !are_pixels(pixels) {
+        return Err(Rule::P4);
+    }
+    Ok(())
+}
+
 fn are_pixels(pixels: &[u8]) -> bool
     ensures { result ≡ list_all is_pixel pixels.now }
 {
     pixels.iter().all(|&pixel| pixel >= 0x20 && pixel <= 0x7e)
-}
-
-// Makes the rows below the chrome what is shown.
-fn compose(pixels: &mut Vec<u8>, contents: &Contents, shown: Option<Instance>)
-    requires count { length pixels.old.items ≡ 2000 }
-    requires open { IfSome shown (λ who. content_in contents.now who ≢ None) }
-    ensures { pixels.new.items ≡ take 240 pixels.old.items ++ body_of contents.now shown }
-{
-    let rows = &mut pixels[CHROME..];
-    match shown {
-        Some(who) => rows.copy_from_slice(contents.pixels(who)),
-        None => rows.fill(SPACE),
-    }
-}
-
-// Makes a row a text, padded by spaces.
-fn write_line(line: &mut [u8], text: &[u8])
-    requires size { length line.old ≡ 80 }
-    requires fits { length text.now ≤ 80 }
-    ensures { line.new ≡ padded text.now }
-{
-    line[..text.len()].copy_from_slice(text);
-    line[text.len()..].fill(SPACE);
 }
