@@ -1,3 +1,9 @@
 pub mod Shown
+pub mod Seen
 pub mod Rows
+pub mod Displayed
 pub mod Steps
+pub mod Follow
+pub mod Trimming
+pub mod Keys
+pub mod Composed

@@ -1,15 +1,19 @@
 -- The row of an act by the tables is its row by the journal that they stand for.
 use Rattle.std.proofs.Common.{◌≡◌, ◌≢◌, ℕ, ◌+◌, ◌<◌, ◌≤◌, Bool, true, false, List, [], ◌∷◌, length, Option, Some, None, Ok, Err, Result, refl, sym, ◌∙◌, ap, subst, arith}
-use Rattle.std.specs.Prelude.{bytes_eq, nat_lt, is_some, ◌-◌, ◌&&◌, ◌==◌, unwrap_or, option_map, if◌then◌else◌}
+use Rattle.std.specs.Prelude.{bytes_eq, nat_lt, is_some, ◌-◌, ◌&&◌, ◌==◌, unwrap_or, option_map, option_and_then, if◌then◌else◌}
 use Rattle.std.proofs.lemmas.Bool.Decides.{nat_tests}
 use Rattle.ibos_kinds.specs.declared.cookies.Cookie.{Cookie}
 use Rattle.ibos_kinds.specs.Cookies.{cookie_in, set_breaks, put, jar_text}
 use Rattle.ibos_kinds.specs.declared.names.Instance.{Instance}
 use Rattle.ibos_kinds.specs.declared.names.Side.{Side}
 use Rattle.ibos_kinds.specs.declared.rule.Rule.{Rule}
-use Rattle.ibos_kinds.specs.declared.rule.Rule.TheVariants.{U1, U2, U3, P1, P2}
+use Rattle.ibos_kinds.specs.declared.rule.Rule.TheVariants.{U1, U2, U3, U10, P1, P2}
 use Rattle.ibos_kinds.specs.declared.act.Act.{Act}
-use Rattle.ibos_kinds.specs.declared.act.Act.TheVariants.{Start, Switch, Close, Go, CookieSet, CookieGet}
+use Rattle.ibos_kinds.specs.declared.act.Act.TheVariants.{Start, Switch, Close, Press, Click, Look, Go, Draw, CookieSet, CookieGet}
+use Rattle.ibos_kinds.specs.declared.names.Key.{Key}
+use Rattle.ibos_kinds.specs.declared.names.Key.TheVariants.{Byte, Enter, Back}
+use Rattle.ibos_kinds.specs.Keyboard.{key_breaks}
+use Rattle.ibos_focus.specs.Focused.{Focused}
 use Rattle.ibos_kinds.specs.declared.outcome.Item.TheVariants.{Opened, Moved as ItemMoved, Ended, Cookies}
 use Rattle.ibos_page.specs.declared.tabs.Moved.{Moved}
 use Rattle.ibos_page.specs.declared.tabs.Moved.TheVariants.{Same, New}
@@ -18,17 +22,20 @@ use Rattle.ibos_kinds.specs.Limits.{Fits}
 use Rattle.ibos_origin.specs.Hosts.{HostTable}
 use Rattle.ibos_origin.specs.Pages.{Page, allowed}
 use Rattle.ibos_page.specs.Seats.{Seat}
-use Rattle.ibos_page.specs.Tabs.{TabTable, seat_at, live_at, next_at, start_in, go_in, is_live_in, admission, admission_in, empty_seat, opened, moved, closed, with_seat, origin_with}
+use Rattle.ibos_page.specs.Tabs.{TabTable, seat_at, live_at, active_in, next_at, start_in, go_in, is_live_in, admission, admission_in, empty_seat, opened, moved, closed, with_seat, origin_with}
 use Rattle.ibos_cookie.specs.Jars.{OriginJar, jar_of}
 use Rattle.ibos_model.specs.Journal.{Journal, is_ok, is_accepted}
-use Rattle.ibos_model.specs.Tabs.{Tabs, Opens, Moves, Ends, Life, Unborn, Alive, Gone, changed, tabs, no_tabs, next_in, life_of, origin_of, life_in}
+use Rattle.ibos_model.specs.Tabs.{Tabs, Opens, Moves, Ends, Life, Unborn, Alive, Gone, changed, tabs, no_tabs, next_in, life_of, origin_of, life_in, active_of}
 use Rattle.ibos_model.specs.Focus.{active_tab}
 use Rattle.ibos_model.specs.Jars.{jar, sets_of, with_set}
-use Rattle.ibos_model.specs.Rows.{accepted, denied, admitted, answer, open_row, start_row, switch_row, close_row, go_row, set_row, get_row, out}
+use Rattle.ibos_frame.specs.Frames.{seen_at}
+use Rattle.ibos_model.specs.Screen.{screen, seen_row}
+use Rattle.ibos_model.specs.Rows.{accepted, denied, admitted, answer, open_row, start_row, switch_row, close_row, page_key_row, enter_row, click_row, look_row, draw_row, go_row, set_row, get_row, out}
 use Rattle.ibos_model.specs.Runs.{IsRun}
-use Rattle.ibos_kernel.specs.Tables.{Tables, origin_at, started_by, gone_by, go_at, let_in, get_at, row, with_started, with_gone, tabs_after, jar_after, Serves}
-use Rattle.ibos_kernel.specs.Standing.{Shows, Stands, life_by, life_at, entry}
-use Rattle.ibos_kernel.proofs.Shown.{none_shown, opens_shown, ends_shown, moves_shown}
+use Rattle.ibos_kernel.specs.Tables.{Parts, origin_at, started_by, gone_by, go_at, enter_at, is_entry, let_in, get_at, row, with_started, with_gone, tabs_after, jar_after, Serves}
+use Rattle.ibos_kernel.specs.Standing.{Shows, Holds, life_by, life_at, entry}
+use Rattle.ibos_kernel.proofs.Shown.{none_shown, opens_shown, ends_shown, moves_shown, tab_of}
+use Rattle.ibos_kernel.proofs.Seen.{seen_same, looks_same}
 
 -- ---- the row by the tables is the row by the journal
 
@@ -70,11 +77,48 @@ let_in_same t who row other same = by_rule (admission t who) refl
     by_rule None is = same (lives_if t who is)
     by_rule (Some rule) is = refl
 
+-- ---- the active instance
+
+-- the active instance lives
+pub active_lives : (t : TabTable) (who : Instance) → active_in t ≡ Some who → live_at t who.tab ≡ Some who
+active_lives t who is = by_tab t.active is
+  where
+    by_tab : (tab : Option ℕ) → option_and_then (live_at t) tab ≡ Some who → live_at t who.tab ≡ Some who
+    by_tab None h = cc
+    by_tab (Some tab) h =
+        let e : who.tab ≡ tab = tab_of tab ((seat_at t tab).count - 1) (seat_at t tab).page who h in
+        let P : ℕ → Type 0 = λ n. live_at t n ≡ Some who in
+        subst P (sym e) h
+
+-- it is the journal's
+pub active_same : (J : Journal) (t : Parts) → Holds J t → active_of t.hosts J ≡ active_in t.tabs
+active_same J t stands = rw stands.active (by_tab t.tabs.active)
+  where
+    by_tab : (tab : Option ℕ) → option_and_then (tabs t.hosts J).live tab ≡ option_and_then (live_at t.tabs) tab
+    by_tab None = refl
+    by_tab (Some tab) = stands.shown.live tab
+
+-- Enter at the entry line, in the words of the journal's rows
+abbrev pub enter_seen : TabTable → Option Instance → Result Page Rule → Outcome
+enter_seen t None r = denied U10
+enter_seen t (Some who) r = go_row who (origin_at t who) (next_at t who.tab) r
+
+abbrev pub entry_key_seen : HostTable → TabTable → List ℕ → Key → Outcome
+entry_key_seen H t entry Enter = enter_seen t (active_in t) (allowed H entry)
+entry_key_seen H t entry key = answer (key_breaks entry key)
+
+abbrev pub press_seen : HostTable → TabTable → Focused → Key → Outcome
+press_seen H t f key = if is_entry f.spot then entry_key_seen H t f.entry key else page_key_row (active_in t) key
+
 -- the row by the tables, in the words of the journal's rows
-abbrev pub row_seen : Tables → Act → Outcome
+abbrev pub row_seen : Parts → Act → Outcome
 row_seen t (Start tab url) = start_row (live_at t.tabs tab) (next_at t.tabs tab) (allowed t.hosts url)
 row_seen t (Switch tab) = switch_row (live_at t.tabs tab)
 row_seen t (Close tab) = close_row (live_at t.tabs tab)
+row_seen t (Press key) = press_seen t.hosts t.tabs t.focus key
+row_seen t (Click r c) = click_row (active_in t.tabs) r c
+row_seen t Look = look_row (seen_row (seen_at t.frames))
+row_seen t (Draw who r c height width pixels) = let_in (admission t.tabs who) (draw_row r c height width pixels)
 row_seen t (Go who url) = let_in (admission t.tabs who) (go_row who (origin_at t.tabs who) (next_at t.tabs who.tab) (allowed t.hosts url))
 row_seen t (CookieSet side who text) = let_in (admission t.tabs who) (answer (set_breaks text (jar_of t.jars (origin_at t.tabs who))))
 row_seen t (CookieGet side who) = let_in (admission t.tabs who) (get_at t.jars (origin_at t.tabs who) who)
@@ -107,18 +151,49 @@ go_at_seen T t who (Err rule) shows lives = refl
 go_at_seen T t who (Ok page) shows lives =
     go_seen who (next_at t who.tab) (origin_at t who) page (ap (λ n. record { tab = who.tab; ord = n }) (sym (shows.newest who.tab who lives)))
 
-pub row-seen : (J : Journal) (t : Tables) (act : Act) → Stands J t → row t act ≡ row_seen t act
+enter_at_seen : (T : Tabs) (t : TabTable) (r : Result Page Rule) → Shows T t → (active : Option Instance) → active_in t ≡ active → enter_at t active r ≡ enter_seen t active r
+enter_at_seen T t r shows None is = refl
+enter_at_seen T t r shows (Some who) is = go_at_seen T t who r shows (active_lives t who is)
+
+pub row-seen : (J : Journal) (t : Parts) (act : Act) → Holds J t → row t act ≡ row_seen t act
 row-seen J t (Start tab url) stands = start_seen (seat_at t.tabs tab).page tab (seat_at t.tabs tab).count (allowed t.hosts url)
 row-seen J t (Switch tab) stands = switch_seen (seat_at t.tabs tab).page tab (seat_at t.tabs tab).count
 row-seen J t (Close tab) stands = refl
+row-seen J t (Press (Byte byte)) stands = refl
+row-seen J t (Press Back) stands = refl
+row-seen J t (Press Enter) stands = ap (λ (row : Outcome). if is_entry t.focus.spot then row else page_key_row (active_in t.tabs) Enter)
+    (enter_at_seen (tabs t.hosts J) t.tabs (allowed t.hosts t.focus.entry) stands.shown (active_in t.tabs) refl)
+row-seen J t (Click r c) stands = refl
+row-seen J t Look stands = refl
+row-seen J t (Draw who r c height width pixels) stands = refl
 row-seen J t (Go who url) stands = let_in_same t.tabs who (go_at t.tabs who (allowed t.hosts url)) (go_row who (origin_at t.tabs who) (next_at t.tabs who.tab) (allowed t.hosts url)) (go_at_seen (tabs t.hosts J) t.tabs who (allowed t.hosts url) stands.shown)
 row-seen J t (CookieSet side who text) stands = refl
 row-seen J t (CookieGet side who) stands = refl
 
-pub row_stands : (J : Journal) (t : Tables) (act : Act) → Stands J t → row_seen t act ≡ out t.hosts J act
+-- what is seen is the journal's screen
+pub seen_screen : (J : Journal) (t : Parts) → Holds J t → (r c : ℕ) → r < 25 → c < 80 → seen_at t.frames r c ≡ screen t.hosts J r c
+seen_screen J t stands = seen_same J t stands.displays stands.shown (active_same J t stands) (λ who. active_lives t.tabs who)
+
+-- Enter by the journal
+enter_stands : (T : Tabs) (t : TabTable) (r : Result Page Rule) → Shows T t → (active : Option Instance) → active_in t ≡ active → enter_seen t active r ≡ enter_row T active r
+enter_stands T t r shows None is = refl
+enter_stands T t r shows (Some who) is = rw (shows.origin who (active_lives t who is), shows.count who.tab) refl
+
+press_stands : (J : Journal) (t : Parts) (key : Key) → Holds J t → press_seen t.hosts t.tabs t.focus key ≡ out t.hosts J (Press key)
+press_stands J t (Byte byte) stands = rw (active_same J t stands, stands.displays.spot, stands.displays.entry) refl
+press_stands J t Back stands = rw (active_same J t stands, stands.displays.spot) refl
+press_stands J t Enter stands = rw (active_same J t stands, stands.displays.spot, stands.displays.entry)
+    (ap (λ (row : Outcome). if is_entry t.focus.spot then row else page_key_row (active_in t.tabs) Enter)
+    (enter_stands (tabs t.hosts J) t.tabs (allowed t.hosts t.focus.entry) stands.shown (active_in t.tabs) refl))
+
+pub row_stands : (J : Journal) (t : Parts) (act : Act) → Holds J t → row_seen t act ≡ out t.hosts J act
 row_stands J t (Start tab url) stands = rw (stands.shown.live tab, stands.shown.count tab) refl
 row_stands J t (Switch tab) stands = rw (stands.shown.live tab) refl
 row_stands J t (Close tab) stands = rw (stands.shown.live tab) refl
+row_stands J t (Press key) stands = press_stands J t key stands
+row_stands J t (Click r c) stands = rw (active_same J t stands) refl
+row_stands J t Look stands = looks_same (seen_at t.frames) (screen t.hosts J) (seen_screen J t stands)
+row_stands J t (Draw who r c height width pixels) stands = sym (let_in_by (tabs t.hosts J) t.tabs who (draw_row r c height width pixels) stands.shown)
 row_stands J t (Go who url) stands =
     let_in_same t.tabs who (go_row who (origin_at t.tabs who) (next_at t.tabs who.tab) (allowed t.hosts url)) (go_row who (origin_of t.hosts J who) (next_in (tabs t.hosts J) who.tab) (allowed t.hosts url))
     (λ lives. rw (stands.shown.origin who lives, stands.shown.count who.tab) refl)

@@ -9,8 +9,8 @@ use Rattle.ibos_page.specs.Tabs.{TabTable, seat_at, live_at, live_in, is_live_in
 use Rattle.ibos_page.proofs.Seats.{seat-set}
 use Rattle.ibos_model.specs.Journal.{same}
 use Rattle.ibos_model.specs.Tabs.{Tabs, Change, Opens, Moves, Ends, Life, Unborn, Alive, Gone, changed, no_tabs, next_in, life_in, life_with, origin_in}
-use Rattle.ibos_kernel.specs.Tables.{origin_at}
-use Rattle.ibos_kernel.specs.Standing.{Shows, life_by, life_at, url_with}
+use Rattle.ibos_kernel.specs.Tables.{origin_at, url_with}
+use Rattle.ibos_kernel.specs.Standing.{Shows, life_by, life_at}
 
 -- no tab has had an instance
 pub none_shown : (t : TabTable) → length t.seats ≡ 64 → ((tab : ℕ) → seat_at t tab ≡ empty_seat) → Shows no_tabs t
@@ -92,11 +92,11 @@ opens_shown T t tab page shows within free =
     url_by who true here lives = rw (newest_same who here lives) refl
     url_by who false here lives = rw (other_tab (next_in T tab) who here) (shows.url who lives)
 
-page_there : (tab ord : ℕ) (page : Option Page) (who : Instance) → option_map (λ (x : Page). record { tab = tab; ord = ord }) page ≡ Some who → is_some page ≡ true
+pub page_there : (tab ord : ℕ) (page : Option Page) (who : Instance) → option_map (λ (x : Page). record { tab = tab; ord = ord }) page ≡ Some who → is_some page ≡ true
 page_there tab ord None who lives = cc
 page_there tab ord (Some page) who lives = refl
 
-tab_of : (tab ord : ℕ) (page : Option Page) (who : Instance) → option_map (λ (x : Page). record { tab = tab; ord = ord }) page ≡ Some who → who.tab ≡ tab
+pub tab_of : (tab ord : ℕ) (page : Option Page) (who : Instance) → option_map (λ (x : Page). record { tab = tab; ord = ord }) page ≡ Some who → who.tab ≡ tab
 tab_of tab ord None who lives = cc
 tab_of tab ord (Some page) who lives = sym (tab_same lives)
   where

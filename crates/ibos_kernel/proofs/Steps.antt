@@ -9,49 +9,68 @@ use Rattle.ibos_kinds.specs.declared.names.Side.{Side}
 use Rattle.ibos_kinds.specs.declared.rule.Rule.{Rule}
 use Rattle.ibos_kinds.specs.declared.rule.Rule.TheVariants.{P1, P2, U3}
 use Rattle.ibos_kinds.specs.declared.act.Act.{Act}
-use Rattle.ibos_kinds.specs.declared.act.Act.TheVariants.{Start, Switch, Close, Go, CookieSet, CookieGet}
+use Rattle.ibos_kinds.specs.declared.act.Act.TheVariants.{Start, Switch, Close, Press, Click, Look, Go, Draw, CookieSet, CookieGet}
+use Rattle.ibos_kinds.specs.declared.names.Key.{Key}
+use Rattle.ibos_kinds.specs.declared.names.Key.TheVariants.{Byte, Enter, Back}
+use Rattle.ibos_focus.specs.declared.focus.Spot.TheVariants.{Entry}
 use Rattle.ibos_kinds.specs.declared.outcome.Item.TheVariants.{Cookies}
 use Rattle.ibos_kinds.specs.declared.outcome.Outcome.{Outcome}
 use Rattle.ibos_kinds.specs.Limits.{Fits}
 use Rattle.ibos_origin.specs.Hosts.{HostTable}
 use Rattle.ibos_origin.specs.Pages.{Page, allowed}
 use Rattle.ibos_page.specs.Seats.{Seat}
-use Rattle.ibos_page.specs.Tabs.{TabTable, seat_at, live_at, next_at, is_live_in, admission, admission_in, empty_seat, opened, moved, closed, with_seat, live_in, origin_with}
+use Rattle.ibos_page.specs.Tabs.{TabTable, seat_at, live_at, active_in, next_at, is_live_in, admission, admission_in, empty_seat, opened, moved, closed, with_seat, live_in, origin_with}
 use Rattle.ibos_cookie.specs.Jars.{OriginJar, jar_of}
 use Rattle.ibos_model.specs.Journal.{Journal, is_ok, is_accepted}
 use Rattle.ibos_model.specs.Tabs.{Tabs, Opens, Moves, Ends, Life, Unborn, Alive, Gone, changed, tabs, no_tabs, next_in, life_of, origin_of, life_in}
-use Rattle.ibos_model.specs.Focus.{active_tab}
+use Rattle.ibos_model.specs.Focus.{active_tab, focus_of}
+use Rattle.ibos_model.specs.Screen.{cell_of, screen}
+use Rattle.ibos_frame.specs.Frames.{seen_at}
 use Rattle.ibos_model.specs.Jars.{jar, sets_of, with_set}
 use Rattle.ibos_model.specs.Rows.{accepted, denied, admitted, answer, start_row, switch_row, close_row, go_row, set_row, get_row, out}
 use Rattle.ibos_model.specs.Runs.{IsRun}
-use Rattle.ibos_kernel.specs.Tables.{Tables, origin_at, let_in, get_at, row, with_started, with_gone, tabs_after, jar_after, Serves}
-use Rattle.ibos_kernel.specs.Standing.{Shows, Stands, life_by, life_at, entry}
+use Rattle.ibos_kernel.specs.Tables.{Tables, Parts, IsTied, IsBeside, IsComposed, is_entry, origin_at, let_in, get_at, row, with_started, with_gone, with_entered, tabs_after, jar_after, Serves}
+use Rattle.ibos_kernel.specs.Standing.{Shows, Holds, Stands, life_by, life_at, entry}
 use Rattle.ibos_kernel.proofs.Shown.{none_shown, opens_shown, ends_shown, moves_shown}
 use Rattle.std.proofs.lemmas.Slice.Eq.{bytes_eq-Decides}
 use Rattle.std.proofs.lemmas.List.{set-set}
 use Rattle.ibos_page.specs.Tabs.{without}
 use Rattle.ibos_model.specs.Focus.{active_by, without as spec_without}
-use Rattle.ibos_model.specs.Journal.{Entry}
 use Rattle.ibos_model.specs.Jars.{sets_by}
-use Rattle.ibos_model.specs.Tabs.{changed_by, changes, opening, leave, end, if_ok}
-use Rattle.ibos_model.specs.Rows.{open_row, leave_row}
+use Rattle.ibos_model.specs.Tabs.{changed_by, changes, opening, leave, entering, end, if_ok}
+use Rattle.ibos_model.specs.Rows.{open_row, leave_row, page_key_row}
 use Rattle.ibos_model.specs.Laws.{IsCarried}
 use Rattle.ibos_model.proofs.JarSteps.{jar-set}
 use Rattle.ibos_model.proofs.Isolated.{carried}
 use Rattle.ibos_kernel.proofs.Shown.{seat-with}
-use Rattle.ibos_kernel.proofs.Rows.{row_seen, row-seen, row_stands, lives_if}
+use Rattle.ibos_kernel.proofs.Rows.{row_seen, row-seen, row_stands, lives_if, enter_seen, active_same, active_lives, seen_screen}
+use Rattle.ibos_kernel.proofs.Displayed.{step_displays, active_within, start_page, let_in_ok}
+
+-- a kernel whose parts stand for a journal
+pub parts_stand : (J : Journal) (parts : Parts) (acts : ℕ) (usable : Bool) → Holds J parts → length J ≡ acts
+    → Stands J (record { hosts = parts.hosts; tabs = parts.tabs; jars = parts.jars; frames = parts.frames; focus = parts.focus; acts = acts; usable = usable })
+parts_stand J parts acts usable holds counted = record { parts = holds; acts = counted }
 
 -- a kernel that has made no act
-pub new_stands : (H : HostTable) (t : TabTable) (jars : List OriginJar) → length t.seats ≡ 64 → ((tab : ℕ) → seat_at t tab ≡ empty_seat) → t.active ≡ None → jars ≡ []
-    → Stands [] (record { hosts = H; tabs = t; jars = jars; acts = 0; usable = true })
-unfolding tabs active_tab sets_of jar
-new_stands H t jars room empty none no_jars = record {
+pub new_holds : (parts : Parts) (table : TabTable) → parts.tabs ≡ table → length table.seats ≡ 64 → ((tab : ℕ) → seat_at table tab ≡ empty_seat) → table.active ≡ None → parts.jars ≡ []
+    → parts.focus ≡ record { entry = []; spot = Entry } → IsBeside parts.tabs parts.frames → IsComposed parts.tabs parts.frames parts.focus → Holds [] parts
+unfolding tabs focus_of sets_of jar cell_of
+new_holds parts table is room empty none no_jars focus beside composed = record {
   run = tt;
-  shown = none_shown t room empty;
-  active = sym none;
+  shown = none_shown parts.tabs (rw is room) (rw is empty);
+  active = rw is (sym none);
   jars = λ o. ap (λ (js : List OriginJar). jar_of js o) no_jars;
-  acts = refl;
+  displays = record {
+    spot = rw focus refl;
+    entry = rw focus refl;
+    cells = λ q r c low left live. absurd (none_lives q (rw (is, empty q.tab) at live));
+    blank = λ q r c past. refl;
+    tied = record { beside = beside; composed = composed; entry = λ h. rw focus refl };
+  };
 }
+  where
+    none_lives : (q : Instance) → is_live_in q empty_seat ≡ true → ⊥
+    none_lives q h = cc
 
 -- which tab is active shows in no other view
 with_active : (T : Tabs) (t : TabTable) (active : Option ℕ) → Shows T t → Shows T (record t { active = active })
@@ -72,15 +91,6 @@ start_free : (live : Option Instance) (next : Instance) (r : Result Page Rule) �
 start_free (Some who) next r ok = cc
 start_free None next r ok = refl
 
-start_page : (live : Option Instance) (next : Instance) (r : Result Page Rule) → is_ok (start_row live next r).head ≡ true → (page : Page) × (r ≡ Ok page)
-start_page (Some who) next r ok = absurd (cc ok)
-start_page None next (Ok page) ok = (page, refl)
-start_page None next (Err rule) ok = absurd (denied_either (nat_lt next.ord 32) ok)
-  where
-    denied_either : (room : Bool) → is_ok (if room then denied rule else denied U3).head ≡ true → ⊥
-    denied_either true h = cc
-    denied_either false h = cc
-
 switch_lives : (live : Option Instance) → is_ok (switch_row live).head ≡ true → live ≢ None
 switch_lives (Some who) ok none = cc
 switch_lives None ok none = cc
@@ -88,10 +98,6 @@ switch_lives None ok none = cc
 close_lives : (live : Option Instance) → is_ok (close_row live).head ≡ true → (who : Instance) × (live ≡ Some who)
 close_lives (Some who) ok = (who, refl)
 close_lives None ok = absurd (cc ok)
-
-let_in_ok : (rule : Option Rule) (row : Outcome) → is_ok (let_in rule row).head ≡ true → (rule ≡ None) × (is_ok row.head ≡ true)
-let_in_ok None row ok = (refl, ok)
-let_in_ok (Some rule) row ok = absurd (cc ok)
 
 go_page : (who : Instance) (origin : List ℕ) (next : Instance) (r : Result Page Rule) → is_ok (go_row who origin next r).head ≡ true → (page : Page) × (r ≡ Ok page)
 go_page who origin next (Ok page) ok = (page, refl)
@@ -135,14 +141,12 @@ close_shown T t tab true shows within row =
     let live = close_lives (live_at t tab) (row refl) in
     rw (shows.live tab, live.1) (with_active _ (with_seat t tab (closed (seat_at t tab))) (without tab t.active) (ends_shown T t tab live.0 shows within live.1))
 
-go_shown : (T : Tabs) (t : TabTable) (who : Instance) (r : Result Page Rule) (ok : Bool) → Shows T t → who.tab < 64
-    → (ok ≡ true → is_ok (let_in (admission t who) (go_row who (origin_at t who) (next_at t who.tab) r)).head ≡ true)
-    → Shows (changed_by T (if_ok ok (leave T who r))) (if ok then with_gone t who r else t)
-go_shown T t who r false shows within row = shows
-go_shown T t who r true shows within row =
-    let admitted = let_in_ok (admission t who) (go_row who (origin_at t who) (next_at t who.tab) r) (row refl) in
-    let lives = lives_if t who admitted.0 in
-    let page = go_page who (origin_at t who) (next_at t who.tab) r admitted.1 in
+-- an instance that lives goes to a page
+left_shown : (T : Tabs) (t : TabTable) (who : Instance) (r : Result Page Rule) → Shows T t → who.tab < 64 → live_at t who.tab ≡ Some who
+    → is_ok (go_row who (origin_at t who) (next_at t who.tab) r).head ≡ true
+    → Shows (changed_by T (leave T who r)) (with_gone t who r)
+left_shown T t who r shows within lives ok =
+    let page = go_page who (origin_at t who) (next_at t who.tab) r ok in
     rw (page.1, shows.origin who lives) (by_origin page.0 lives (bytes_eq page.0.origin (origin_at t who)) refl)
   where
     by_origin : (page : Page) → live_at t who.tab ≡ Some who → (same : Bool) → bytes_eq page.origin (origin_at t who) ≡ same
@@ -150,10 +154,29 @@ go_shown T t who r true shows within row =
     by_origin page lives true same = moves_shown T t who page shows within lives ((bytes_eq-Decides page.origin (origin_at t who)).0 same)
     by_origin page lives false differ = leaves_shown T t who page shows within lives
 
+go_shown : (T : Tabs) (t : TabTable) (who : Instance) (r : Result Page Rule) (ok : Bool) → Shows T t → who.tab < 64
+    → (ok ≡ true → is_ok (let_in (admission t who) (go_row who (origin_at t who) (next_at t who.tab) r)).head ≡ true)
+    → Shows (changed_by T (if_ok ok (leave T who r))) (if ok then with_gone t who r else t)
+go_shown T t who r false shows within row = shows
+go_shown T t who r true shows within row =
+    let admitted = let_in_ok (admission t who) (go_row who (origin_at t who) (next_at t who.tab) r) (row refl) in
+    left_shown T t who r shows within (lives_if t who admitted.0) admitted.1
+-- the active instance goes to the page of the entry line
+entered_shown : (T : Tabs) (t : TabTable) (active : Option Instance) (r : Result Page Rule) (ok at_entry : Bool) (key : Key) → Shows T t
+    → ((who : Instance) → active ≡ Some who → (live_at t who.tab ≡ Some who) × (who.tab < 64))
+    → (ok ≡ true → is_ok (if at_entry then enter_seen t active r else page_key_row active key).head ≡ true)
+    → Shows (changed_by T (if_ok (ok && at_entry) (entering T active r))) (if ok && at_entry then with_entered t active r else t)
+entered_shown T t active r false at_entry key shows lives row = shows
+entered_shown T t active r true false key shows lives row = shows
+entered_shown T t None r true true key shows lives row = shows
+entered_shown T t (Some who) r true true key shows lives row =
+    let here = lives who refl in
+    left_shown T t who r shows here.1 here.0 (row refl)
+
 ok_of : (outcome row : Outcome) → outcome ≡ row → (ok : Bool) → is_ok outcome.head ≡ ok → ok ≡ true → is_ok row.head ≡ true
 ok_of outcome row is ok head accepted = ap (λ (o : Outcome). is_ok o.head) (sym is) ∙ head ∙ accepted
 
-tabs_stand : (J : Journal) (t : Tables) (act : Act) (outcome : Outcome) → Stands J t → Fits act → outcome ≡ row_seen t act
+tabs_stand : (J : Journal) (t : Parts) (act : Act) (outcome : Outcome) → Holds J t → Fits act → outcome ≡ row_seen t act
     → Shows (tabs t.hosts (entry act outcome ∷ J)) (tabs_after t (is_ok outcome.head) act)
 unfolding tabs
 tabs_stand J t (Start tab url) outcome stands fits is = start_shown (tabs t.hosts J) t.tabs tab (allowed t.hosts url) (is_ok outcome.head) stands.shown fits (ok_of outcome _ is (is_ok outcome.head) refl)
@@ -163,6 +186,15 @@ tabs_stand J t (Switch tab) outcome stands fits is = switched (is_ok outcome.hea
     switched true = with_active _ t.tabs (Some tab) stands.shown
     switched false = stands.shown
 tabs_stand J t (Close tab) outcome stands fits is = close_shown (tabs t.hosts J) t.tabs tab (is_ok outcome.head) stands.shown fits (ok_of outcome _ is (is_ok outcome.head) refl)
+tabs_stand J t (Press (Byte byte)) outcome stands fits is = stands.shown
+tabs_stand J t (Press Back) outcome stands fits is = stands.shown
+tabs_stand J t (Press Enter) outcome stands fits is = rw (stands.displays.spot, stands.displays.entry, active_same J t stands)
+    (entered_shown (tabs t.hosts J) t.tabs (active_in t.tabs) (allowed t.hosts t.focus.entry) (is_ok outcome.head) (is_entry t.focus.spot) Enter stands.shown
+    (λ who is. (active_lives t.tabs who is, active_within t.tabs who stands.displays.tied.beside.room (active_lives t.tabs who is)))
+    (ok_of outcome _ is (is_ok outcome.head) refl))
+tabs_stand J t (Click r c) outcome stands fits is = stands.shown
+tabs_stand J t Look outcome stands fits is = stands.shown
+tabs_stand J t (Draw who r c height width pixels) outcome stands fits is = stands.shown
 tabs_stand J t (Go who url) outcome stands fits is = go_shown (tabs t.hosts J) t.tabs who (allowed t.hosts url) (is_ok outcome.head) stands.shown fits.0 (ok_of outcome _ is (is_ok outcome.head) refl)
 tabs_stand J t (CookieSet side who text) outcome stands fits is = stands.shown
 tabs_stand J t (CookieGet side who) outcome stands fits is = stands.shown
@@ -171,9 +203,9 @@ without_same : (tab : ℕ) (active : Option ℕ) → spec_without tab active ≡
 without_same tab None = refl
 without_same tab (Some active) = refl
 
-active_stands : (J : Journal) (t : Tables) (act : Act) (outcome : Outcome) → Stands J t → outcome ≡ row_seen t act
+active_stands : (J : Journal) (t : Parts) (act : Act) (outcome : Outcome) → Holds J t → outcome ≡ row_seen t act
     → active_tab (entry act outcome ∷ J) ≡ (tabs_after t (is_ok outcome.head) act).active
-unfolding active_tab
+unfolding focus_of
 active_stands J t (Start tab url) outcome stands is = started (is_ok outcome.head) (ok_of outcome _ is (is_ok outcome.head) refl)
   where
     started : (ok : Bool) → (ok ≡ true → is_ok (start_row (live_at t.tabs tab) (next_at t.tabs tab) (allowed t.hosts url)).head ≡ true)
@@ -190,6 +222,18 @@ active_stands J t (Close tab) outcome stands is = ended (is_ok outcome.head)
     ended : (ok : Bool) → (if ok then spec_without tab (active_tab J) else active_tab J) ≡ (if ok then record (with_seat t.tabs tab (closed (seat_at t.tabs tab))) { active = without tab t.tabs.active } else t.tabs).active
     ended true = ap (spec_without tab) stands.active ∙ without_same tab t.tabs.active
     ended false = stands.active
+active_stands J t (Press (Byte byte)) outcome stands is = stands.active
+active_stands J t (Press Back) outcome stands is = stands.active
+active_stands J t (Press Enter) outcome stands is = entered (is_ok outcome.head && is_entry t.focus.spot) (active_in t.tabs) (allowed t.hosts t.focus.entry)
+  where
+    entered : (ok : Bool) (active : Option Instance) (r : Result Page Rule) → active_tab J ≡ (if ok then with_entered t.tabs active r else t.tabs).active
+    entered false active r = stands.active
+    entered true None r = stands.active
+    entered true (Some who) (Ok page) = stands.active
+    entered true (Some who) (Err rule) = stands.active
+active_stands J t (Click r c) outcome stands is = stands.active
+active_stands J t Look outcome stands is = stands.active
+active_stands J t (Draw who r c height width pixels) outcome stands is = stands.active
 active_stands J t (Go who url) outcome stands is = gone (is_ok outcome.head) (allowed t.hosts url)
   where
     gone : (ok : Bool) (r : Result Page Rule) → active_tab J ≡ (if ok then with_gone t.tabs who r else t.tabs).active
@@ -200,7 +244,7 @@ active_stands J t (CookieSet side who text) outcome stands is = stands.active
 active_stands J t (CookieGet side who) outcome stands is = stands.active
 
 -- the jar of an origin after an act
-jars_stand : (J : Journal) (t : Tables) (act : Act) (outcome : Outcome) → Stands J t → outcome ≡ row_seen t act → (o : List ℕ)
+jars_stand : (J : Journal) (t : Parts) (act : Act) (outcome : Outcome) → Holds J t → outcome ≡ row_seen t act → (o : List ℕ)
     → jar_after t (is_ok outcome.head) act o ≡ jar (sets_of t.hosts (entry act outcome ∷ J) o)
 unfolding sets_of
 jars_stand J t (CookieSet side who text) outcome stands is o = set (is_ok outcome.head) (ok_of outcome _ is (is_ok outcome.head) refl)
@@ -218,36 +262,65 @@ jars_stand J t (CookieSet side who text) outcome stands is o = set (is_ok outcom
 jars_stand J t (Start tab url) outcome stands is o = stands.jars o
 jars_stand J t (Switch tab) outcome stands is o = stands.jars o
 jars_stand J t (Close tab) outcome stands is o = stands.jars o
+jars_stand J t (Press key) outcome stands is o = stands.jars o
+jars_stand J t (Click r c) outcome stands is o = stands.jars o
+jars_stand J t Look outcome stands is o = stands.jars o
+jars_stand J t (Draw who r c height width pixels) outcome stands is o = stands.jars o
 jars_stand J t (Go who url) outcome stands is o = stands.jars o
 jars_stand J t (CookieGet side who) outcome stands is o = stands.jars o
 
--- an act that the tables serve
-pub step_stands : (J : Journal) (t : Tables) (act : Act) (outcome : Outcome) (tabs : TabTable) (jars : List OriginJar) (acts : ℕ) (usable : Bool) → Stands J t → Fits act → Serves t act outcome tabs jars
-    → acts ≡ t.acts + 1 → Stands (entry act outcome ∷ J) (record { hosts = t.hosts; tabs = tabs; jars = jars; acts = acts; usable = usable })
-step_stands J t act outcome tabs jars acts usable stands fits serves counted =
-    let told : outcome ≡ row_seen t act = serves.told ∙ row-seen J t act stands in
+-- an act that the parts serve
+pub step_holds : (J : Journal) (old new : Parts) (act : Act) (outcome : Outcome) → Holds J old → Fits act → Serves old act outcome new → Holds (entry act outcome ∷ J) new
+step_holds J old new act outcome stands fits serves =
+    let told : outcome ≡ row_seen old act = serves.told ∙ row-seen J old act stands in
+    let H : HostTable = old.hosts in
+    let P : HostTable → Type 0 = λ T. IsRun T (entry act outcome ∷ J) in
+    let Q : TabTable → Type 0 = Shows (tabs H (entry act outcome ∷ J)) in
+    let S : HostTable → Type 0 = λ T. Shows (tabs T (entry act outcome ∷ J)) new.tabs in
     record {
-      run = (told ∙ row_stands J t act stands, stands.run);
-      shown = let P : TabTable → Type 0 = Shows _ in subst P (sym serves.tabs_are) (tabs_stand J t act outcome stands fits told);
-      active = active_stands J t act outcome stands told ∙ ap (λ (table : TabTable). table.active) (sym serves.tabs_are);
-      jars = λ o. serves.jars_are o ∙ jars_stand J t act outcome stands told o;
-      acts = omega (arith, stands.acts, counted);
+      run = subst P (sym serves.hosts_are) (told ∙ row_stands J old act stands, stands.run);
+      shown = subst S (sym serves.hosts_are) (subst Q (sym serves.tabs_are) (tabs_stand J old act outcome stands fits told));
+      active = active_stands J old act outcome stands told ∙ ap (λ (table : TabTable). table.active) (sym serves.tabs_are);
+      jars = λ o. serves.jars_are o ∙ jars_stand J old act outcome stands told o ∙ ap (λ (T : HostTable). jar (sets_of T (entry act outcome ∷ J) o)) (sym serves.hosts_are);
+      displays = step_displays J old new act outcome stands fits serves told;
     }
 
 -- the outcome is the journal's
-pub step_told : (J : Journal) (t : Tables) (act : Act) (outcome : Outcome) (tabs : TabTable) (jars : List OriginJar) → Stands J t → Serves t act outcome tabs jars → outcome ≡ out t.hosts J act
-step_told J t act outcome tabs jars stands serves = serves.told ∙ row-seen J t act stands ∙ row_stands J t act stands
-
--- the same, as the code says it: what was served, and the count of acts one higher
-pub step_kept : (J : Journal) (t served inside : Tables) (act : Act) (outcome : Outcome) → inside ≡ served → served.hosts ≡ t.hosts → served.acts ≡ t.acts
-    → Stands J t → Fits act → Serves t act outcome served.tabs served.jars → Stands (entry act outcome ∷ J) (record inside { acts = inside.acts + 1 })
-step_kept J t served inside act outcome is hosts acts stands fits serves =
-    let made = step_stands J t act outcome served.tabs served.jars (served.acts + 1) served.usable stands fits serves (ap (λ n. n + 1) acts) in
-    let P : HostTable → Type 0 = λ H. Stands (entry act outcome ∷ J) (record { hosts = H; tabs = served.tabs; jars = served.jars; acts = served.acts + 1; usable = served.usable }) in
-    let Q : Tables → Type 0 = λ x. Stands (entry act outcome ∷ J) (record x { acts = x.acts + 1 }) in
-    subst Q (sym is) (subst P (sym hosts) made)
+pub step_told : (J : Journal) (old new : Parts) (act : Act) (outcome : Outcome) → Holds J old → Serves old act outcome new → outcome ≡ out old.hosts J act
+step_told J old new act outcome stands serves = serves.told ∙ row-seen J old act stands ∙ row_stands J old act stands
 
 -- what the act tells each instance is what its facts give
-pub step_carried : (J : Journal) (t : Tables) (act : Act) (outcome : Outcome) (tabs : TabTable) (jars : List OriginJar) → Stands J t → Serves t act outcome tabs jars
-    → IsCarried t.hosts J (entry act outcome)
-step_carried J t act outcome tabs jars stands serves = carried t.hosts J (entry act outcome) (step_told J t act outcome tabs jars stands serves, stands.run)
+pub step_carried : (J : Journal) (old new : Parts) (act : Act) (outcome : Outcome) → Holds J old → Serves old act outcome new
+    → IsCarried old.hosts J (entry act outcome)
+step_carried J old new act outcome stands serves = carried old.hosts J (entry act outcome) (step_told J old new act outcome stands serves, stands.run)
+
+-- ---- as the code says it
+
+abbrev view_of : Parts → ℕ → Bool → Tables
+view_of parts acts usable = record { hosts = parts.hosts; tabs = parts.tabs; jars = parts.jars; frames = parts.frames; focus = parts.focus; acts = acts; usable = usable }
+
+-- the parts of what the kernel is seen as
+held : (J : Journal) (t : Tables) (parts : Parts) (acts : ℕ) (usable : Bool) → view_of parts acts usable ≡ t → Stands J t → Holds J parts
+held J t parts acts usable view stands = let P : Tables → Type 0 = Stands J in (subst P (sym view) stands).parts
+
+pub step_stands : (J : Journal) (t : Tables) (old new : Parts) (acts : ℕ) (usable : Bool) (act : Act) (outcome : Outcome) → view_of old acts usable ≡ t
+    → Stands J t → Fits act → Serves old act outcome new → Stands (entry act outcome ∷ J) (view_of new (acts + 1) usable)
+step_stands J t old new acts usable act outcome view stands fits serves =
+    let counted : acts ≡ t.acts = ap (λ (k : Tables). k.acts) view in
+    record { parts = step_holds J old new act outcome (held J t old acts usable view stands) fits serves; acts = omega (arith, stands.acts, counted) }
+
+pub step_carries : (J : Journal) (t : Tables) (old new : Parts) (acts : ℕ) (usable : Bool) (act : Act) (outcome : Outcome) → view_of old acts usable ≡ t
+    → Stands J t → Serves old act outcome new → IsCarried t.hosts J (entry act outcome)
+step_carries J t old new acts usable act outcome view stands serves =
+    let P : HostTable → Type 0 = λ H. IsCarried H J (entry act outcome) in
+    subst P (ap (λ (k : Tables). k.hosts) view) (step_carried J old new act outcome (held J t old acts usable view stands) serves)
+
+pub step_tells : (J : Journal) (t : Tables) (old new : Parts) (acts : ℕ) (usable : Bool) (act : Act) (outcome : Outcome) → view_of old acts usable ≡ t
+    → Stands J t → Serves old act outcome new → outcome ≡ out t.hosts J act
+step_tells J t old new acts usable act outcome view stands serves =
+    step_told J old new act outcome (held J t old acts usable view stands) serves ∙ ap (λ (k : Tables). out k.hosts J act) view
+
+pub pixels_seen : (J : Journal) (t : Tables) (parts : Parts) (acts : ℕ) (usable : Bool) → view_of parts acts usable ≡ t → Stands J t
+    → (r c : ℕ) → r < 25 → c < 80 → seen_at parts.frames r c ≡ screen t.hosts J r c
+pixels_seen J t parts acts usable view stands r c low left =
+    seen_screen J parts (held J t parts acts usable view stands) r c low left ∙ ap (λ (k : Tables). screen k.hosts J r c) view

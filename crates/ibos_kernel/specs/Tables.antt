@@ -89,7 +89,7 @@ pub record IsComposed (t : TabTable) (frames : Frames) (focus : Focused) : Type 
 pub record IsBeside (t : TabTable) (frames : Frames) : Type 0 where
   pub room : length t.seats ≡ 64
   pub newest : (tab : ℕ) (who : Instance) → live_at t tab ≡ Some who → who.ord + 1 ≡ (seat_at t tab).count
-  pub open : IsOpenWhereLive t frames
+  pub lives : IsOpenWhereLive t frames
 
 -- what the parts of the screen have to do with the tabs
 pub record IsTied (t : TabTable) (frames : Frames) (focus : Focused) : Type 0 where
@@ -99,7 +99,7 @@ pub record IsTied (t : TabTable) (frames : Frames) (focus : Focused) : Type 0 wh
 
 -- contents go with their instances: those that started have an empty one, and those that stayed keep theirs
 pub record Follows (old new : TabTable) (before after : Frames) : Type 0 where
-  pub open : IsOpenWhereLive new after
+  pub lives : IsOpenWhereLive new after
   pub kept : (q : Instance) → is_live old q ≡ true → is_live new q ≡ true → content_of after q ≡ content_of before q
   pub blank : (q : Instance) (r c : ℕ) → r < 22 → c < 80 → is_live old q ≡ false → is_live new q ≡ true → content_at after q r c ≡ space
 
@@ -225,7 +225,7 @@ pub record Makes (old : Parts) (act : Act) (outcome : Outcome) (new : Parts) : T
   pub tabs_are : new.tabs ≡ tabs_after old (is_ok outcome.head) act
   pub jars_are : (o : List ℕ) → jar_of new.jars o ≡ jar_after old (is_ok outcome.head) act o
   pub focus_is : new.focus ≡ focus_after old (is_ok outcome.head) act
-  pub open : IsOpenWhereLive new.tabs new.frames
+  pub lives : IsOpenWhereLive new.tabs new.frames
   pub cells_are : (q : Instance) (r c : ℕ) → r < 22 → c < 80 → is_live new.tabs q ≡ true
       → content_at new.frames q r c ≡ cell_after old (is_ok outcome.head) act q r c
   pub leaves : composes act ≡ false → Leaves old new

@@ -113,6 +113,6 @@ impl Kernel {
         ensures screen { (J : Journal) → Stands J self.now → (r c : ℕ) → r < 25 → c < 80
             → slice_index result.now (80 * r + c) ≡ screen self.now.hosts J r c }
     {
-        self.parts.screen.pixels()
+        self.parts.pixels()
     }
 }

@@ -1,10 +1,10 @@
 // What acts read and change: the host table, the tabs, the jars, the screen and the focus.
-ghost use Rattle.std.specs.Prelude.{◌≡◌, ◌<◌, [], None, Some, OnOk, IfSome};
+ghost use Rattle.std.specs.Prelude.{◌≡◌, ◌<◌, ◌+◌, ◌*◌, ℕ, [], None, Some, length, slice_index, OnOk, IfSome};
 ghost use Rattle.ibos_kinds.specs.Limits.{Fits, IsKey};
 ghost use Rattle.ibos_kinds.specs.declared.names.Instance.{Instance};
 ghost use Rattle.ibos_kinds.specs.declared.act.Act.TheVariants.{Start, Switch, Close, Press, Click, Look, Go, Draw, CookieSet, CookieGet};
 ghost use Rattle.ibos_page.specs.Tabs.{live_at, admission};
-ghost use Rattle.ibos_frame.specs.Frames.{content_of};
+ghost use Rattle.ibos_frame.specs.Frames.{content_of, seen_at};
 ghost use Rattle.ibos_model.specs.Journal.{is_ok};
 ghost use Rattle.ibos_route.specs.Parties.{admission_of};
 ghost use Rattle.ibos_kernel.specs.Tables as spec;
@@ -130,6 +130,14 @@ impl Parts {
             .chrome(1, address_row(&self.tabs, active).as_slice());
         self.screen
             .chrome(2, entry_row(self.focus.entry()).as_slice());
+    }
+
+    /// What is seen of the screen.
+    pub fn pixels(&self) -> &[u8]
+        ensures count { length result.now ≡ 2000 }
+        ensures pixels { (r c : ℕ) → r < 25 → c < 80 → slice_index result.now (80 * r + c) ≡ seen_at self.now.frames r c }
+    {
+        self.screen.pixels()
     }
 
     fn start(

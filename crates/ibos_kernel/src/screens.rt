@@ -1,12 +1,11 @@
 // What the user sees, and what pages draw.
-ghost use Rattle.std.specs.Prelude.{◌≡◌, ◌<◌, ◌+◌, ◌*◌, ◌++◌, ℕ, [], ◌∷◌, length, slice_index, true, OnOk, IfOk};
-ghost use Rattle.ibos_kinds.specs.Screens.{draw_breaks};
-ghost use Rattle.ibos_frame.specs.Frames.{is_open, seen_at};
-ghost use Rattle.ibos_model.specs.Screen.{seen_row, trimmed, cells_from};
-ghost use Rattle.ibos_model.specs.Rows.{look_row, rows_from};
+ghost use Rattle.std.specs.Prelude.{◌≡◌, [], OnOk, IfOk};
+ghost use Rattle.ibos_frame.specs.Frames.{seen_at};
+ghost use Rattle.ibos_model.specs.Screen.{seen_row, trimmed};
+ghost use Rattle.ibos_model.specs.Rows.{look_row};
 
 use ibos_frame::Screen;
-use ibos_kinds::{Bytes, Item, Memory, Outcome};
+use ibos_kinds::{Bytes, Head, Item, Memory, Outcome};
 use std::alloc::Global;
 
 /// The screen has so many rows, and each so many cells.
@@ -43,9 +42,9 @@ fn row_text(alloc: Global, cells: &[u8]) -> Result<Bytes, Memory>
 fn trim(cells: &[u8]) -> &[u8]
     ensures { result.now ≡ trimmed cells.now }
 {
-    let mut rest = cells;
-    'spaces: while let [before @ .., b' '] = rest {
-        rest = before;
+    let mut len = cells.len();
+    'spaces: while len > 0 && cells[len - 1] == b' ' {
+        len -= 1;
     }
-    rest
+    &cells[..len]
 }

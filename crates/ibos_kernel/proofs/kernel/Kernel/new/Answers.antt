@@ -1,5 +1,9 @@
-use Rattle.ibos_kernel.proofs.Steps.{new_stands}
+use Rattle.std.proofs.Common.{refl, ◌∙◌}
+use Rattle.ibos_kernel.proofs.Steps.{new_holds, parts_stand}
 use Rattle.ibos_kernel.proofs.kernel.Kernel.new.Goals as goal
 
 pub returns-clause-stands : goal.returns-clause-stands
-returns-clause-stands c = new_stands c.args.hosts c.in_ok-tabs.tabs c.new-2.result c.in_ok-tabs.ensures.room c.in_ok-tabs.ensures.seats c.in_ok-tabs.ensures.active c.new-2.ensures
+returns-clause-stands c =
+    let made = c.compose.ensures in
+    let tabs = c.in_ok-tabs.ensures in
+    parts_stand _ c.compose.new.self 0 _ (new_holds c.compose.new.self c.in_ok-tabs.tabs made.tabs tabs.room tabs.seats tabs.active (made.jars ∙ c.new-3.ensures) (made.focus ∙ c.new-4.ensures) made.beside made.composed) refl

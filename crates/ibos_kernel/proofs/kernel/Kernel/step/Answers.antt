@@ -1,14 +1,14 @@
-use Rattle.ibos_kernel.proofs.Steps.{step_kept, step_carried}
-use Rattle.ibos_kernel.specs.Tables.{Tables}
+use Rattle.ibos_kernel.proofs.Steps.{step_stands, step_carries, step_tells}
 use Rattle.ibos_kernel.proofs.kernel.Kernel.step.Goals as goal
+
+pub returns-in-Ok-clause-outcome : goal.returns-in-Ok-clause-outcome
+returns-in-Ok-clause-outcome c = λ J stands.
+    step_tells J c.args.self.now c.self.inside.parts c.serve.new.self c.self.inside.acts c.self.inside.usable c.args.act.now c.serve.new.out c.self.view_is stands c.in-Ok.ensures.serves
 
 pub returns-in-Ok-clause-stands : goal.returns-in-Ok-clause-stands
 returns-in-Ok-clause-stands c = λ J stands.
-    let k = c.self.inside in
-    let inside : Tables = record { hosts = k.hosts; tabs = k.tabs; jars = k.jars; acts = k.acts; usable = k.usable } in
-    let served = c.in-Ok.ensures in
-    step_kept J c.args.self.now c.serve.new.self inside c.args.act.now c.serve.new.out c.self.view_is served.hosts served.acts stands c.requires.fits served.serves
+    step_stands J c.args.self.now c.self.inside.parts c.serve.new.self c.self.inside.acts c.self.inside.usable c.args.act.now c.serve.new.out c.self.view_is stands c.requires.fits c.in-Ok.ensures.serves
 
 pub returns-in-Ok-clause-carried : goal.returns-in-Ok-clause-carried
 returns-in-Ok-clause-carried c = λ J stands.
-    step_carried J c.args.self.now c.args.act.now c.serve.new.out c.serve.new.self.tabs c.serve.new.self.jars stands c.in-Ok.ensures.serves
+    step_carries J c.args.self.now c.self.inside.parts c.serve.new.self c.self.inside.acts c.self.inside.usable c.args.act.now c.serve.new.out c.self.view_is stands c.in-Ok.ensures.serves
