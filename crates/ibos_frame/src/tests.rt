@@ -1,12 +1,15 @@
-ghost use Rattle.std.specs.Prelude.{◌≡◌, true};
-ghost use Rattle.ibos_frame.specs.Frames.{is_open};
+ghost use Rattle.std.specs.Prelude.{◌≡◌, ◌≢◌, ◌<◌, true, IfOk};
+ghost use Rattle.ibos_kinds.specs.declared.names.Instance.{Instance};
+ghost use Rattle.ibos_frame.specs.Frames.{content_of, is_open};
 
 use super::*;
-use ibos_kinds::{Instance, Rule};
+use ibos_kinds::{Instance, Memory, Rule};
+use std::alloc::Global;
 use std::process::Abort;
 use std::test::Fail;
 
 const FIRST: Instance = Instance { tab: 0, ord: 0 };
+
 const SECOND: Instance = Instance { tab: 63, ord: 31 };
 
 // A content's pixels as they are drawn: row after row.
@@ -20,6 +23,15 @@ fn assert_seen(rt: &impl Abort, screen: &Screen, row: usize, text: &[u8])
     assert!(rt; seen[text.len()..].iter().all(|&pixel| pixel == b' '));
 }
 
+fn with_first(alloc: Global) -> Result<Screen, Memory>
+    ensures { IfOk result (λ screen. is_open screen FIRST ≡ true) }
+{
+    let mut screen = Screen::new(alloc)?;
+    screen.begin(FIRST)?;
+    screen.show(Some(FIRST));
+    Ok(screen)
+}
+
 fn assert_draw(
     rt: &impl Abort,
     screen: &mut Screen,
@@ -29,7 +41,8 @@ fn assert_draw(
     answer: Result<(), Rule>,
 )
     requires { is_open screen.old who ≡ true }
-    ensures { is_open screen.new who ≡ true }
+    ensures open { is_open screen.new who ≡ true }
+    ensures others { (q : Instance) → q ≢ who → content_of screen.new q ≡ content_of screen.old q }
 {
     let [row, col, height, width] = region;
     assert_eq!(rt; screen.draw(who, row, col, height, width, pixels), answer);
@@ -44,10 +57,20 @@ fn a_new_screen_is_blank(rt: HostRuntime) -> Result<(), Fail> {
 
 #[test]
 fn a_draw_is_within_the_content_and_printable(rt: HostRuntime) -> Result<(), Fail> {
-    let mut screen = Screen::new(rt.alloc())?;
-    screen.begin(FIRST)?;
-    screen.show(Some(FIRST));
+    let alloc = rt.alloc();
+    let mut screen = with_first(alloc)?;
     assert_draw(&rt, &mut screen, FIRST, [21, 79, 1, 1], b"x", Ok(()));
+    assert_draw(&rt, &mut screen, FIRST, [4, 78, 1, 2], b" ~", Ok(()));
+    assert_eq!(rt; screen.pixels()[80 * 7 + 79], b'~');
+    assert_eq!(rt; screen.pixels()[1999], b'x');
+    assert_eq!(rt;
+        screen
+            .pixels()
+            .iter()
+            .filter(|&&pixel| pixel != b' ')
+            .count(),
+        2
+    );
     for (region, pixels, rule) in [
         ([22, 79, 1, 1], b"x".as_slice(), Rule::P3),
         ([21, 80, 1, 1], b"x".as_slice(), Rule::P3),
@@ -60,12 +83,10 @@ fn a_draw_is_within_the_content_and_printable(rt: HostRuntime) -> Result<(), Fai
         ([0, 0, 1, 1], b"\x1f".as_slice(), Rule::P4),
         ([0, 0, 1, 1], b"\x7f".as_slice(), Rule::P4),
     ] {
+        let mut screen = with_first(alloc)?;
         assert_draw(&rt, &mut screen, FIRST, region, pixels, Err(rule));
+        assert_eq!(rt; screen.pixels(), [b' '; 2000].as_slice());
     }
-    assert_draw(&rt, &mut screen, FIRST, [4, 78, 1, 2], b" ~", Ok(()));
-    assert_eq!(rt; screen.pixels()[80 * 7 + 79], b'~');
-    assert_eq!(rt; screen.pixels()[1999], b'x');
-    assert_eq!(rt; screen.pixels().iter().filter(|&&pixel| pixel != b' ').count(), 2);
     Ok(())
 }
 
