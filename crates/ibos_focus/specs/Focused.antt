@@ -1,7 +1,7 @@
 -- The entry line, and where keys and clicks go.
 use Rattle.std.specs.Prelude.{ℕ, ◌-◌, List, Bool, ◌==◌, not, nat_lt, Option, Some, None, Result, Ok, Err, is_some, if◌then◌else◌}
 use Rattle.ibos_kinds.specs.declared.names.Key.{Key}
-use Rattle.ibos_kinds.specs.declared.names.Key.TheVariants.{Byte, Enter, Back}
+use Rattle.ibos_kinds.specs.declared.names.Key.TheVariants.{Enter}
 use Rattle.ibos_kinds.specs.declared.rule.Rule.{Rule}
 use Rattle.ibos_kinds.specs.declared.rule.Rule.TheVariants.{U10, U12}
 use Rattle.ibos_kinds.specs.Keyboard.{key_byte, key_breaks, typed}

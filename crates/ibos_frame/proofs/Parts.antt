@@ -1,12 +1,12 @@
 -- The screen's pixels, after its rows below the chrome or one of the chrome's were written.
-use Rattle.std.proofs.Common.{◌≡◌, ◌≢◌, ℕ, ◌+◌, ◌-◌, ◌*◌, ◌<◌, ◌≤◌, Bool, true, false, List, [], length, refl, sym, ◌∙◌, ap, subst, arith, get_or, take, drop, replicate, ◌++◌}
+use Rattle.std.proofs.Common.{◌≡◌, ◌≢◌, ℕ, ◌+◌, ◌-◌, ◌*◌, ◌<◌, ◌≤◌, Bool, true, false, List, [], length, refl, sym, ◌∙◌, ap, arith, get_or, take, drop, replicate, ◌++◌}
 use Rattle.std.specs.Prelude.{nat_lt, Option, Some, None, unwrap_or, if◌then◌else◌}
 use Rattle.std.proofs.lemmas.Bool.Decides.{nat_tests}
 use Rattle.std.proofs.lemmas.List.{append-nil, length-append, length-replicate, length-take-le, length-drop, drop_at, drop_all, drop-take, take-take, drop-replicate, take-replicate, get_or-replicate, get_or-take, get_or-drop, get_or_append_left, get_or-append_right}
 use Rattle.std.proofs.lemmas.Slice.{take-put_mid_below, drop-put_mid, between-put_mid}
 use Rattle.ibos_kinds.specs.Screens.{space}
 use Rattle.ibos_frame.specs.Frames.{Frames, padded, shown_content, seen_at, pixel_in, chrome_at}
-use borrow.Rule.Slice.PartMut.{put_mid, post_of}
+use borrow.Rule.Slice.PartMut.{put_mid}
 
 -- a list whose end was written
 pub drop-put_mid_end : (xs ys : List ℕ) (a k : ℕ) → a ≤ length xs → length xs ≤ a + k → drop a (put_mid a k xs ys) ≡ ys

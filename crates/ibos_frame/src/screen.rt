@@ -58,7 +58,7 @@ impl Screen {
         requires { is_open self.old who ≡ false }
         ensures open { OnOk result (is_open self.new who ≡ true) }
         ensures blank { OnOk result ((r c : ℕ) → r < 22 → c < 80 → content_at self.new who r c ≡ space) }
-        ensures others { OnOk result ((q : Instance) → q ≢ who → content_of self.new q ≡ content_of self.old q) }
+        ensures others { (q : Instance) → q ≢ who → content_of self.new q ≡ content_of self.old q }
         ensures shown { self.new.shown ≡ self.old.shown }
         ensures chrome { self.new.chrome ≡ self.old.chrome }
         ensures err { OnErr result (self.new ≡ self.old) }
@@ -100,9 +100,9 @@ impl Screen {
     ) -> Result<(), Rule>
         requires { is_open self.old who ≡ true }
         ensures answer { result ≡ answer_of (draw_breaks row col height width pixels.now) }
-        ensures open { OnOk result (is_open self.new who ≡ true) }
+        ensures open { is_open self.new who ≡ true }
         ensures drawn { OnOk result ((r c : ℕ) → r < 22 → c < 80 → content_at self.new who r c ≡ cell_after row col height width pixels.now r c (content_at self.old who r c)) }
-        ensures others { OnOk result ((q : Instance) → q ≢ who → content_of self.new q ≡ content_of self.old q) }
+        ensures others { (q : Instance) → q ≢ who → content_of self.new q ≡ content_of self.old q }
         ensures shown { self.new.shown ≡ self.old.shown }
         ensures chrome { self.new.chrome ≡ self.old.chrome }
         ensures err { OnErr result (self.new ≡ self.old) }

@@ -1,4 +1,4 @@
-use Rattle.std.proofs.Common.{◌≡◌, ℕ, ◌+◌, ◌-◌, ◌∙◌, ap, arith, length, List, [], ◌++◌, take, replicate, vec_len}
+use Rattle.std.proofs.Common.{◌≡◌, ℕ, ◌-◌, ◌∙◌, ap, arith, List, [], ◌++◌, take, replicate, vec_len}
 use Rattle.std.proofs.lemmas.List.{take_all}
 use Rattle.ibos_frame.proofs.content.spaces.Goals as goal
 

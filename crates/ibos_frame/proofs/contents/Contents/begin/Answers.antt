@@ -1,4 +1,4 @@
-use Rattle.std.proofs.Common.{◌≡◌, ◌<◌, ℕ, List, length, Option, Some, sym, ◌∙◌, ap, subst, arith, vec_len}
+use Rattle.std.proofs.Common.{◌<◌, length, Some, ◌∙◌, ap, arith, vec_len}
 use Rattle.ibos_frame.specs.Frames.{content_in}
 use Rattle.ibos_frame.proofs.Places.{content-set_same, content-set_other, content-same}
 use Rattle.ibos_frame.proofs.contents.Contents.begin.Goals as goal

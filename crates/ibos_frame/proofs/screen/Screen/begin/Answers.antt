@@ -1,4 +1,4 @@
-use Rattle.std.proofs.Common.{◌≡◌, ◌∙◌, Some, ap}
+use Rattle.std.proofs.Common.{◌∙◌, Some, ap}
 use Rattle.ibos_frame.specs.Frames.{pixel_in}
 use Rattle.ibos_frame.proofs.Parts.{pixel-blank}
 use Rattle.ibos_frame.proofs.screen.Screen.begin.Goals as goal

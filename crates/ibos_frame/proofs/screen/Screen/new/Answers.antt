@@ -1,4 +1,4 @@
-use Rattle.std.proofs.Common.{◌≡◌, ◌∙◌, ap}
+use Rattle.std.proofs.Common.{◌∙◌, ap}
 use Rattle.ibos_frame.specs.Frames.{line_of}
 use Rattle.ibos_frame.proofs.Parts.{line-blank}
 use Rattle.ibos_frame.proofs.screen.Screen.new.Goals as goal

@@ -1,4 +1,4 @@
-use Rattle.std.proofs.Common.{◌≡◌, ◌+◌, ◌*◌, ◌∙◌, ap, get_or}
+use Rattle.std.proofs.Common.{◌+◌, ◌*◌, ◌∙◌, ap, get_or}
 use Rattle.ibos_frame.specs.Frames.{Frames, seen_at}
 use Rattle.ibos_frame.proofs.Parts.{pixel-seen}
 use Rattle.ibos_frame.proofs.screen.Screen.pixels.Goals as goal
