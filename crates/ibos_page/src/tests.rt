@@ -1,4 +1,4 @@
-ghost use Rattle.std.specs.Prelude.{◌≡◌, Some};
+ghost use Rattle.std.specs.Prelude.{◌≡◌, ◌<◌, Some};
 ghost use Rattle.ibos_page.specs.Tabs.{live_at};
 
 use super::*;
@@ -16,11 +16,13 @@ fn page(alloc: Global, url: &[u8]) -> Result<Page, Fail> {
     Ok(Page::read(alloc, &hosts, url)?)
 }
 
-// Opens a page in tab 5, and says which instance it is.
-fn open(rt: &impl Abort, tabs: &mut Tabs, page: Page) -> Instance {
-    let may = tabs.may_start(5);
+// Opens a page in a tab, and says which instance it is.
+fn open(rt: &impl Abort, tabs: &mut Tabs, tab: u8, page: Page) -> Instance
+    requires { tab < 64 }
+{
+    let may = tabs.may_start(tab);
     assert!(rt; may.is_ok());
-    tabs.start(5, page)
+    tabs.start(tab, page)
 }
 
 fn assert_lives(rt: &impl Abort, tabs: &Tabs, who: Instance)
@@ -33,7 +35,7 @@ fn assert_lives(rt: &impl Abort, tabs: &Tabs, who: Instance)
 fn an_instance_starts_moves_leaves_and_ends(rt: HostRuntime) -> Result<(), Fail> {
     let alloc = rt.alloc();
     let mut tabs = Tabs::new(alloc)?;
-    let first = open(&rt, &mut tabs, page(alloc, b"http://a.example/1")?);
+    let first = open(&rt, &mut tabs, 5, page(alloc, b"http://a.example/1")?);
     assert_eq!(rt; first, Instance { tab: 5, ord: 0 });
     assert_eq!(rt; tabs.may_start(5), Err(Rule::U1));
     assert_eq!(rt; tabs.live(Instance { tab: 5, ord: 1 }), Err(Rule::P1));
@@ -63,5 +65,17 @@ fn an_instance_starts_moves_leaves_and_ends(rt: HostRuntime) -> Result<(), Fail>
     assert_eq!(rt; tabs.close(5), Ok(second));
     assert_eq!(rt; tabs.close(5), Err(Rule::U2));
     assert_eq!(rt; tabs.active(), None);
+    Ok(())
+}
+
+#[test]
+fn closing_an_inactive_tab_leaves_the_active_one(rt: HostRuntime) -> Result<(), Fail> {
+    let alloc = rt.alloc();
+    let mut tabs = Tabs::new(alloc)?;
+    let first = open(&rt, &mut tabs, 5, page(alloc, b"http://a.example/")?);
+    let second = open(&rt, &mut tabs, 6, page(alloc, b"http://b.example/")?);
+    assert_eq!(rt; tabs.close(5), Ok(first));
+    assert_eq!(rt; tabs.active(), Some(second));
+    assert_eq!(rt; tabs.live(second), Ok(()));
     Ok(())
 }
