@@ -1,5 +1,7 @@
 ghost use Rattle.std.specs.Prelude.{◌≡◌, ◌<◌, ◌^◌, ◌-◌, IfOk};
 
+mod screens;
+
 use crate::{Status, run};
 use ibos_kinds::{Bytes, MemCabinet, MemSink, Memory};
 use std::alloc::Global;
