@@ -7,3 +7,5 @@ pub mod AgreeTabs
 pub mod AgreeCookies
 pub mod AgreeInput
 pub mod Isolated
+pub mod Alone
+pub mod Chrome

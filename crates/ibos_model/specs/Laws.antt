@@ -1,9 +1,13 @@
 -- The laws of journals.
-use Rattle.std.specs.Prelude.{ℕ, ◌≡◌, List, ◌∷◌, ◌++◌}
+use Rattle.std.specs.Prelude.{ℕ, ◌≡◌, List, ◌∷◌, ◌++◌, Bool, true, false, ◌&&◌, ◌||◌, Option}
 use Rattle.ibos_kinds.specs.declared.names.Instance.{Instance}
 use Rattle.ibos_kinds.specs.declared.act.Act.{Act}
 use Rattle.ibos_origin.specs.Hosts.{HostTable}
-use Rattle.ibos_model.specs.Journal.{Entry, Journal}
+use Rattle.ibos_kinds.specs.declared.act.Act.TheVariants.{Start, Switch, Close, Press, Click, Look, Go}
+use Rattle.ibos_model.specs.Journal.{Entry, Journal, is_accepted}
+use Rattle.ibos_model.specs.Focus.{is_active}
+use Rattle.ibos_model.specs.Tabs.{active_of}
+use Rattle.ibos_model.specs.Screen.{chrome_of}
 use Rattle.ibos_model.specs.Runs.{IsRun, run}
 use Rattle.ibos_model.specs.Facts.{facts, Suits}
 use Rattle.ibos_model.specs.Gives.{gives, told_at, delivered}
@@ -31,3 +35,24 @@ IsCarried H J e = (p : Instance) (o : List ℕ) → Suits H p o (e ∷ J) →
 -- The same of every entry of every run.
 abbrev pub IsCarriedAlways : Type 0
 IsCarriedAlways = (H : HostTable) (J : Journal) (e : Entry) → IsRun H (e ∷ J) → IsCarried H J e
+
+-- the act is one of the user
+abbrev pub is_users : Act → Bool
+is_users (Start tab url) = true
+is_users (Switch tab) = true
+is_users (Close tab) = true
+is_users (Press key) = true
+is_users (Click row col) = true
+is_users Look = true
+is_users other = false
+
+-- the act is the active instance's own going
+abbrev pub goes_active : Option Instance → Act → Bool
+goes_active active (Go who url) = is_active who active
+goes_active active other = false
+
+-- The chrome's rows change only by an accepted act of the user, and by an accepted `go` of the active instance. So a
+-- denied act, a draw, and an act of a network process leave them.
+abbrev pub IsChromeKept : Type 0
+IsChromeKept = (H : HostTable) (J : Journal) (e : Entry) (r : ℕ) → IsRun H (e ∷ J) →
+    (is_accepted e && (is_users e.act || goes_active (active_of H J) e.act)) ≡ false → chrome_of H (e ∷ J) r ≡ chrome_of H J r

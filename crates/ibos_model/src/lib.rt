@@ -2,7 +2,7 @@
 //! run here: each function is a law, which its contract states.
 #![tactic(auto)]
 
-ghost use Rattle.ibos_model.specs.Laws.{IsIsolated, IsIsolatedOverTwo, IsCarriedAlways};
+ghost use Rattle.ibos_model.specs.Laws.{IsIsolated, IsIsolatedOverTwo, IsCarriedAlways, IsChromeKept};
 
 /// In every run each instance is told what the facts that concern it give, whatever else happens.
 pub fn isolation()
@@ -17,4 +17,10 @@ pub fn isolation_of_two_runs()
 /// What one entry of a run tells an instance is what the facts that the entry adds give.
 pub fn isolation_of_each_entry()
     ensures { IsCarriedAlways }
+{}
+
+/// The chrome's rows change only by an accepted act of the user and by an accepted `go` of the active
+/// instance: no denied act, draw or act of a network process reaches them.
+pub fn chrome_is_kept()
+    ensures { IsChromeKept }
 {}
