@@ -161,6 +161,7 @@ go_shown T t who r false shows within row = shows
 go_shown T t who r true shows within row =
     let admitted = let_in_ok (admission t who) (go_row who (origin_at t who) (next_at t who.tab) r) (row refl) in
     left_shown T t who r shows within (lives_if t who admitted.0) admitted.1
+
 -- the active instance goes to the page of the entry line
 entered_shown : (T : Tabs) (t : TabTable) (active : Option Instance) (r : Result Page Rule) (ok at_entry : Bool) (key : Key) → Shows T t
     → ((who : Instance) → active ≡ Some who → (live_at t who.tab ≡ Some who) × (who.tab < 64))

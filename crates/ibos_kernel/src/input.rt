@@ -91,9 +91,7 @@ fn enter(
     ensures focus { OnOk result (focus.new ≡ (if is_ok out.new.head then record { entry = []; spot = Spot.Content } else focus.old)) }
     ensures follows { OnOk result (Follows tabs.old tabs.new screen.old screen.new) }
 {
-    let Some(who) = active else {
-        unreachable!()
-    };
+    let Some(who) = active else { unreachable!() };
     go(tabs, screen, hosts, alloc, who, focus.entry(), out)?;
     if is_accepted(out) {
         focus.clear();

@@ -90,14 +90,10 @@ impl Parts {
                 width,
                 pixels,
             } => {
-                if let Err(rule) = self.screen.draw(
-                    *who,
-                    *row,
-                    *col,
-                    *height,
-                    *width,
-                    pixels.as_slice(),
-                ) {
+                if let Err(rule) = self
+                    .screen
+                    .draw(*who, *row, *col, *height, *width, pixels.as_slice())
+                {
                     out.head = Head::Denied(rule);
                 }
             }

@@ -75,12 +75,7 @@ pub fn switch(tabs: &mut Tabs, tab: u8, out: &mut Outcome)
 }
 
 /// The user closes a tab.
-pub fn close(
-    tabs: &mut Tabs,
-    screen: &mut Screen,
-    tab: u8,
-    out: &mut Outcome,
-) -> Result<(), Memory>
+pub fn close(tabs: &mut Tabs, screen: &mut Screen, tab: u8, out: &mut Outcome) -> Result<(), Memory>
     requires tab { tab < 64 }
     requires beside { IsBeside tabs.old screen.old }
     requires head { out.old.head ≡ Head.Ok }

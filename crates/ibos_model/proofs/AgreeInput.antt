@@ -89,7 +89,7 @@ no_changes false cs = refl
 entered_at : (H : HostTable) (p : Instance) (o : List ℕ) (t : Tabs) (sets : List Cookie) (active : Option Instance) (r : Result Page Rule) (at_entry : Bool) → IsSound t
     → AllowsAll t (if_ok (is_ok (if at_entry then enter_row t active r else page_key_row active Enter).head && at_entry) (entering t active r))
     → Pressed H p o t sets active at_entry Enter (if at_entry then enter_row t active r else page_key_row active Enter)
-        (if_ok (is_ok (if at_entry then enter_row t active r else page_key_row active Enter).head && at_entry) (entering t active r))
+    (if_ok (is_ok (if at_entry then enter_row t active r else page_key_row active Enter).head && at_entry) (entering t active r))
 entered_at H p o t sets active r true sound allowed = entered_page H p o t sets active r sound allowed
 entered_at H p o t sets active r false sound allowed =
     let P : List Change → Type 0 = Pressed H p o t sets active false Enter (page_key_row active Enter) in

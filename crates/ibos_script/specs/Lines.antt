@@ -76,10 +76,10 @@ draw_in who fields =
     if not (has_word (after_two (after_two fields))) || has_word (after_word (after_two (after_two fields)))
     then Err Count
     else read_number (instance_in who) (λ who.
-        read_number (pair_in fields) (λ cell.
-        read_number (pair_in (after_two fields)) (λ size.
-        read_hex (hex_in (first_word (after_two (after_two fields)))) (λ pixels.
-        Ok (Act (Draw who cell.0 cell.1 size.0 size.1 pixels))))))
+    read_number (pair_in fields) (λ cell.
+    read_number (pair_in (after_two fields)) (λ size.
+    read_hex (hex_in (first_word (after_two (after_two fields)))) (λ pixels.
+    Ok (Act (Draw who cell.0 cell.1 size.0 size.1 pixels))))))
 
 -- behind `page T.N go`: `URL`
 unfoldable pub go_in : List ℕ → List ℕ → Result Line LineFault

@@ -165,9 +165,7 @@ fn write_cell<'a>(
 {
     push_pieces(
         text,
-        &[
-            digits, b" ", tab, b".", ord, word, row, b" ", col, b"\n",
-        ],
+        &[digits, b" ", tab, b".", ord, word, row, b" ", col, b"\n"],
     )
 }
 

@@ -124,7 +124,11 @@ fn keys_clicks_looks_and_draws_are_read(rt: HostRuntime) -> Result<(), Fail> {
             [21, 79, 1, 1],
             b"x".as_slice(),
         ),
-        (b"page 0.0 draw 0 1 4294967295 3 -", [0, 1, 4294967295, 3], b""),
+        (
+            b"page 0.0 draw 0 1 4294967295 3 -",
+            [0, 1, 4294967295, 3],
+            b"",
+        ),
         (b"page 0.0 draw 0 0 1 2 4a4B ", [0, 0, 1, 2], b"JK"),
     ];
     for (line, [row, col, height, width], pixels) in draws {

@@ -11,8 +11,7 @@ rows-preserved c =
     let row = c.rows.row in
     let within : row < 25 = c.rows-test.true in
     let told = c.in_ok-push.ensures in
-    let text = c.in_ok-text.ensures ∙ seen_text c.pixels-pixels.result.now (seen_at c.args.screen.now) row (80 * row + 80 - 80 * row) (omega arith) c.pixels-pixels.ensures.count c.pixels-pixels.ensures.pixels within in
-    (
+    let text = c.in_ok-text.ensures ∙ seen_text c.pixels-pixels.result.now (seen_at c.args.screen.now) row (80 * row + 80 - 80 * row) (omega arith) c.pixels-pixels.ensures.count c.pixels-pixels.ensures.pixels within in (
       omega (arith, within),
       told.head ∙ c.rows.invariant.1,
       told.ok ∙ ap (λ (items : List Item). items ++ RowIs row c.in_ok-text.text ∷ []) c.rows.invariant.2 ∙ rows-next row (seen_row (seen_at c.args.screen.now)) c.in_ok-text.text text,

@@ -17,5 +17,6 @@ returns c =
     let within = c.spaces.invariant.within in
     let same = c.spaces.invariant.same in
     elim c.spaces-test.branch [
-      then-spaces-test+else-cells-len-eq32 w ↦ sym (front-other c.spaces.len c.args.cells.now w.spaces-test.true within w.if-cells-len-eq32.false) ∙ same
-      | else-spaces-test w ↦ let none : c.spaces.len ≡ 0 = omega (arith, w.spaces-test.false) in ap (λ n. take n c.args.cells.now) none ∙ (rw none at same) ]
+      | then-spaces-test+else-cells-len-eq32 w ↦ sym (front-other c.spaces.len c.args.cells.now w.spaces-test.true within w.if-cells-len-eq32.false) ∙ same
+      | else-spaces-test w ↦ let none : c.spaces.len ≡ 0 = omega (arith, w.spaces-test.false) in ap (λ n. take n c.args.cells.now) none ∙ (rw none at same)
+    ]

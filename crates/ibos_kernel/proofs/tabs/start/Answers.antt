@@ -12,6 +12,6 @@ returns-in_ok-begin-in-Ok-read-clause-follows c =
     let begun = c.in_ok-begin-in-Ok-read.ensures in
     let who = started_who t c.args.tab c.in-Ok.who (sym c.may_start.ensures ∙ c.in-Ok.is) in
     let follows = follows_started t c.args.tab c.in-Ok-read.page c.in-Ok.who c.args.screen.now c.begin.new.self who c.requires.beside c.requires.tab
-        (started_free t c.args.tab c.in-Ok.who (sym c.may_start.ensures ∙ c.in-Ok.is)) begun.open begun.blank begun.others in
+    (started_free t c.args.tab c.in-Ok.who (sym c.may_start.ensures ∙ c.in-Ok.is)) begun.open begun.blank begun.others in
     let P : TabTable → Type 0 = λ new. Follows t new c.args.screen.now c.begin.new.self in
     subst P (sym c.start.ensures.table) follows
