@@ -239,11 +239,11 @@ fn read_click(fields: &[u8]) -> Result<Line, LineFault>
 }
 
 #[tactic(auto, unfolding(crate::specs::Lines::look_in))]
-fn read_look(fields: &[u8]) -> Result<Line, LineFault>
-    ensures line { Gives result (look_in fields.now) }
+fn read_look(rest: &[u8]) -> Result<Line, LineFault>
+    ensures line { Gives result (look_in rest.now) }
     ensures fits { IfOk result LineFits }
 {
-    if has_word(fields) {
+    if has_word(rest) {
         return Err(LineFault::Count);
     }
     Ok(Line::Act(Act::Look))
