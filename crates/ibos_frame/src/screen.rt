@@ -6,16 +6,16 @@ ghost use Rattle.ibos_kinds.specs.Screens.{columns, content_rows, space, is_pixe
 ghost use Rattle.ibos_kinds.specs.Screens as spec;
 ghost use Rattle.ibos_frame.specs.Frames.{answer_of, padded, body_of, content_in};
 
-use crate::content::Content;
+use crate::content::{COLUMNS, Content, ROWS};
 use crate::contents::Contents;
 use crate::rows::Rows;
 use ibos_kinds::{Instance, Memory, Rule};
 use std::alloc::Global;
 use std::marker::Model;
 
-/// The screen of 25 rows of 80 pixels, each a printable byte of ASCII: three rows of chrome, and then the
-/// content of the instance that was shown last, as long as it has not ended, or else spaces. A content has
-/// 22 rows of 80 pixels.
+/// The screen of 25 rows of 80 one-byte pixels: three rows of chrome, and then the content of the instance
+/// that was shown last, as long as it has not ended, or else spaces. A content has 22 rows of 80 pixels,
+/// each a printable byte of ASCII. No call but `new` and `begin` takes memory.
 #[derive(Drop)]
 pub struct Screen {
     alloc: Global,
@@ -88,7 +88,7 @@ impl Screen {
     /// Draws a region of an instance's content, from its row and column on, by pixels that come row after
     /// row. P3 where the region is empty or passes the content, or the pixels are not as many as it has;
     /// P4 where a pixel is no printable byte of ASCII. What is drawn is seen at once where the instance is
-    /// shown, and once it is shown otherwise. Takes no memory.
+    /// shown, and once it is shown otherwise.
     pub fn draw(
         &mut self,
         who: Instance,
@@ -122,7 +122,7 @@ impl Screen {
         Ok(())
     }
 
-    /// Shows an instance's content in rows 3 to 24, or spaces. Takes no memory.
+    /// Shows an instance's content in rows 3 to 24, or spaces.
     pub fn show(&mut self, active: Option<Instance>)
         requires { IfSome active (λ who. is_open self.old who ≡ true) }
         ensures shown { self.new.shown ≡ active }
@@ -136,7 +136,7 @@ impl Screen {
         }
     }
 
-    /// Makes one of rows 0 to 2 a text of at most 80 bytes, padded by spaces. Takes no memory.
+    /// Makes one of rows 0 to 2 a text of at most 80 bytes, padded by spaces.
     pub fn chrome(&mut self, row: u8, text: &[u8])
         requires row { row < 3 }
         requires fits { length text.now ≤ 80 }
@@ -148,7 +148,7 @@ impl Screen {
         self.rows.write(row as usize, text);
     }
 
-    /// The 2,000 pixels, row by row. Takes no memory.
+    /// The 2,000 pixels, row by row.
     pub fn pixels(&self) -> &[u8]
         ensures count { length result.now ≡ 2000 }
         ensures pixels { (r c : ℕ) → r < 25 → c < 80 → slice_index result.now (80 * r + c) ≡ seen_at self.now r c }
@@ -170,8 +170,8 @@ fn is_region(row: u32, col: u32, height: u32, width: u32, pixels: &[u8]) -> bool
     let (height, width) = (height as u64, width as u64);
     height > 0
         && width > 0
-        && row as u64 + height <= 22
-        && col as u64 + width <= 80
+        && row as u64 + height <= ROWS as u64
+        && col as u64 + width <= COLUMNS as u64
         && pixels.len() as u64 == height * width
 }
 
