@@ -211,6 +211,12 @@ composes (Click row col) = true
 composes (Go who url) = true
 composes other = false
 
+-- the act is one that is made without taking memory
+abbrev pub takes_none : Act → Bool
+takes_none (Switch tab) = true
+takes_none (Draw who r c height width pixels) = true
+takes_none other = false
+
 -- what an act leaves of the screen and the tabs that it does not change
 pub record Leaves (old new : Parts) : Type 0 where
   pub tabs : new.tabs ≡ old.tabs

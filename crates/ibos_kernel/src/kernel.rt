@@ -1,5 +1,5 @@
 // One step.
-ghost use Rattle.std.specs.Prelude.{◌≡◌, ℕ, ◌<◌, ◌+◌, ◌*◌, ◌^◌, [], ◌∷◌, true, is_ok, length, slice_index, IfOk, OnOk};
+ghost use Rattle.std.specs.Prelude.{◌≡◌, ℕ, ◌<◌, ◌+◌, ◌*◌, ◌^◌, [], ◌∷◌, true, is_ok, length, slice_index, IfOk, IsOk, OnOk};
 ghost use Rattle.ibos_kinds.specs.Limits.{Fits};
 
 use crate::parts::Parts;
@@ -36,6 +36,7 @@ impl Kernel {
     ghost use Rattle.ibos_model.specs.Rows.{out as outcome_of};
     ghost use Rattle.ibos_model.specs.Laws.{IsCarried};
     ghost use Rattle.ibos_model.specs.Screen.{screen};
+    ghost use Rattle.ibos_kernel.specs.Tables.{takes_none};
     ghost use Rattle.ibos_kernel.specs.Standing.{Stands, entry};
 
     /// A kernel that has made no act, over a host table.
@@ -88,6 +89,9 @@ impl Kernel {
 
         // The head and the items to each instance are what the facts that the act adds give.
         ensures carried { OnOk result ((J : Journal) → Stands J self.old → IsCarried self.old.hosts J (entry act.now out.new)) }
+
+        // A switch and a draw take no memory.
+        ensures free { takes_none act.now ≡ true → IsOk result }
 
         ensures hosts { self.new.hosts ≡ self.old.hosts }
         ensures acts { OnOk result (self.new.acts ≡ self.old.acts + 1) }

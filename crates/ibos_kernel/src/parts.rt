@@ -1,5 +1,5 @@
 // What acts read and change: the host table, the tabs, the jars, the screen and the focus.
-ghost use Rattle.std.specs.Prelude.{◌≡◌, ◌<◌, ◌+◌, ◌*◌, ℕ, [], None, Some, length, slice_index, OnOk, IfSome};
+ghost use Rattle.std.specs.Prelude.{◌≡◌, ◌<◌, ◌+◌, ◌*◌, ℕ, [], None, Some, true, length, slice_index, IsOk, OnOk, IfSome};
 ghost use Rattle.ibos_kinds.specs.Limits.{Fits, IsKey};
 ghost use Rattle.ibos_kinds.specs.declared.names.Instance.{Instance};
 ghost use Rattle.ibos_kinds.specs.declared.act.Act.TheVariants.{Start, Switch, Close, Press, Click, Look, Go, Draw, CookieSet, CookieGet};
@@ -8,7 +8,7 @@ ghost use Rattle.ibos_frame.specs.Frames.{content_of, seen_at};
 ghost use Rattle.ibos_model.specs.Journal.{is_ok};
 ghost use Rattle.ibos_route.specs.Parties.{admission_of};
 ghost use Rattle.ibos_kernel.specs.Tables as spec;
-ghost use Rattle.ibos_kernel.specs.Tables.{Makes, bar_at, IsTied, IsComposed, IsBeside, IsOpenWhereLive, Serves};
+ghost use Rattle.ibos_kernel.specs.Tables.{Makes, bar_at, takes_none, IsTied, IsComposed, IsBeside, IsOpenWhereLive, Serves};
 
 use crate::chrome::{Row, bar_row, entry_row, state_row};
 use crate::cookies::{get, set};
@@ -52,6 +52,7 @@ impl Parts {
         requires head { out.old.head ≡ Head.Ok }
         requires items { out.old.items ≡ [] }
         ensures serves { OnOk result (Serves self.old act.now out.new self.new) }
+        ensures free { takes_none act.now ≡ true → IsOk result }
         ensures hosts { self.new.hosts ≡ self.old.hosts }
     {
         if let Err(rule) = admit(&self.tabs, act) {
@@ -72,6 +73,7 @@ impl Parts {
         requires head { out.old.head ≡ Head.Ok }
         requires items { out.old.items ≡ [] }
         ensures makes { OnOk result (Makes self.old act.now out.new self.new) }
+        ensures free { takes_none act.now ≡ true → IsOk result }
         ensures hosts { self.new.hosts ≡ self.old.hosts }
     {
         match act {
