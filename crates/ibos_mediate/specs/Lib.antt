@@ -1,1 +1,2 @@
 pub mod Mediated
+pub mod Rules

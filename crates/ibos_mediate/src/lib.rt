@@ -2,5 +2,7 @@
 #![tactic(auto)]
 
 mod counts;
+mod limits;
 
 pub use counts::Counts;
+pub use limits::{CAUSE_BITS, RECEIVE_CONTROL, TRANSMIT_CONTROL, TRANSMIT_FIXED};
