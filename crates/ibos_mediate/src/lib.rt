@@ -3,6 +3,7 @@
 
 mod counts;
 mod limits;
+mod ring_state;
 
 pub use counts::Counts;
 pub use limits::{CAUSE_BITS, RECEIVE_CONTROL, TRANSMIT_CONTROL, TRANSMIT_FIXED};
