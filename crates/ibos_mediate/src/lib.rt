@@ -1,0 +1,3 @@
+//! The mediator between the driver of a network card and the card: which registers the driver may write, which buffers
+//! a ring holds, and what the memory, the pool and the card then are.
+#![tactic(auto)]
