@@ -1,2 +1,3 @@
 pub mod Mediated
 pub mod Relation
+pub mod Writes

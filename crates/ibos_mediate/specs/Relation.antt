@@ -29,9 +29,8 @@ abbrev pub descriptor_at : Ring → ℕ → ℕ
 descriptor_at ring number = slot_address ring (slot_of number)
 
 -- the descriptor of that number is posted and not taken back
-pub record IsOpen (r : RingView) (number : ℕ) : Type 0 where
-  pub taken : r.taken ≤ number
-  pub posted : number < r.posted
+abbrev pub IsOpen : RingView → ℕ → Type 0
+IsOpen r number = (r.taken ≤ number) × (number < r.posted)
 
 -- the buffer that is held for an open descriptor
 abbrev pub no_buffer : Held
@@ -55,10 +54,10 @@ posted_rx address = record { address = address; length = 0; checksum = 0; status
 abbrev pub posted_tx : ℕ → ℕ → TxDesc
 posted_tx address len = record { address = address; length = len; cso = 0; cmd = 0x0b; sta = 0; css = 0; special = 0 }
 
--- the descriptor of that number is as it was posted
-abbrev pub IsAsPosted : Ring → Memory → RingView → ℕ → Type 0
-IsAsPosted Receive mem r number = rx_at mem (descriptor_at Receive number) ≡ posted_rx (address_of (place_for r number))
-IsAsPosted Transmit mem r number = tx_at mem (descriptor_at Transmit number) ≡ posted_tx (address_of (place_for r number)) (length_for r number)
+-- the descriptor of that number is as it was posted with that address and length
+abbrev pub IsAsPosted : Ring → Memory → ℕ → ℕ → ℕ → Type 0
+IsAsPosted Receive mem number address len = rx_at mem (descriptor_at Receive number) ≡ posted_rx address
+IsAsPosted Transmit mem number address len = tx_at mem (descriptor_at Transmit number) ≡ posted_tx address len
 
 -- the address that the descriptor of that number names
 abbrev pub address_in : Ring → Memory → ℕ → ℕ
@@ -93,7 +92,8 @@ pub record IsConfigured (ring : Ring) (r : RingView) : Type 0 where
 pub record IsRingInMemory (ring : Ring) (mem : Memory) (r : RingView) : Type 0 where
   pub balanced : IsBalanced r
   pub rung : completed ring mem r ≤ r.rung
-  pub waiting : (number : ℕ) → completed ring mem r ≤ number → number < r.posted → IsAsPosted ring mem r number
+  pub waiting : (number : ℕ) → completed ring mem r ≤ number → number < r.posted
+      → IsAsPosted ring mem number (address_of (place_for r number)) (length_for r number)
   pub named : (number : ℕ) → IsOpen r number → address_in ring mem number ≡ address_of (place_for r number)
   pub lent : (number : ℕ) → IsOpen r number → IsLent mem (place_for r number)
   pub inside : (number : ℕ) → IsOpen r number → length_for r number ≤ BUFFER_BYTES
