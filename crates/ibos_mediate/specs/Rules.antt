@@ -77,13 +77,13 @@ is_unconfigured m Tdt value = not (is_configured Transmit m.transmit)
 is_unconfigured m other value = false
 
 -- how many descriptors are rung once the tail is at a slot
-abbrev pub rung_to : RingView → ℕ → ℕ
-rung_to r tail = r.rung + distance r.rung tail
+abbrev pub rung_count : RingView → ℕ → ℕ
+rung_count r tail = r.rung + distance r.rung tail
 
 -- a tail passes what was posted
 abbrev pub is_beyond_posted : Mediated → Reg → ℕ → Bool
-is_beyond_posted m Rdt value = nat_lt m.receive.posted (rung_to m.receive value)
-is_beyond_posted m Tdt value = nat_lt m.transmit.posted (rung_to m.transmit value)
+is_beyond_posted m Rdt value = nat_lt m.receive.posted (rung_count m.receive value)
+is_beyond_posted m Tdt value = nat_lt m.transmit.posted (rung_count m.transmit value)
 is_beyond_posted m other value = false
 
 -- the first rule that a write to a register breaks
@@ -104,18 +104,6 @@ of_reg (Some reg) rule otherwise = rule reg
 -- the first rule that a write to an offset breaks
 abbrev pub write_rule : Mediated → ℕ → ℕ → Option Rule
 write_rule m offset value = of_reg (reg_at offset) (λ reg. write_rule_of m reg value) M1
-
--- what is kept after a register was written
-abbrev pub after_reg_write : Mediated → Reg → ℕ → Mediated
-after_reg_write m Rdbal value = record m { receive = record (m.receive) { base = value } }
-after_reg_write m Rdlen value = record m { receive = record (m.receive) { len = value } }
-after_reg_write m Rctl value = record m { receive = record (m.receive) { control = value } }
-after_reg_write m Rdt value = record m { receive = record (m.receive) { rung = rung_to m.receive value } }
-after_reg_write m Tdbal value = record m { transmit = record (m.transmit) { base = value } }
-after_reg_write m Tdlen value = record m { transmit = record (m.transmit) { len = value } }
-after_reg_write m Tctl value = record m { transmit = record (m.transmit) { control = value } }
-after_reg_write m Tdt value = record m { transmit = record (m.transmit) { rung = rung_to m.transmit value } }
-after_reg_write m other value = m
 
 -- the mask can be cleared but not read by IMC
 abbrev pub read_rule_of : Reg → Option Rule

@@ -1,4 +1,5 @@
-//! The mediator of a network card: each access to a register, and each post of a descriptor, goes through it.
+//! The mediator between the driver of a network card and the card: which registers the driver may write, which buffers
+//! a ring holds, and what the memory, the pool and the card then are.
 #![tactic(auto)]
 
 mod counts;

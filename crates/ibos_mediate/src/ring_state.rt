@@ -2,7 +2,7 @@
 ghost use Rattle.std.specs.Prelude.{◌≡◌, ◌+◌, ◌-◌, ◌<◌, ◌≤◌, ◌^◌, [], length, slice_get, IfOk, Some};
 ghost use Rattle.ibos_nic.specs.Registers.{is_enabled, ring_size};
 ghost use Rattle.ibos_mediate.specs.Mediated.{IsBalanced};
-ghost use Rattle.ibos_mediate.specs.Rules.{after_take, is_configured, rung_to, slot_rule, with_post};
+ghost use Rattle.ibos_mediate.specs.Rules.{after_take, is_configured, rung_count, slot_rule, with_post};
 
 use crate::counts::Counts;
 use circular_buffer::HeapCircularBuffer;
@@ -109,9 +109,9 @@ impl RingState {
     }
 
     /// How many descriptors are rung once the tail is at that slot.
-    pub(crate) fn rung_to(&self, tail: u32) -> u32
+    pub(crate) fn rung_count(&self, tail: u32) -> u32
         requires { tail < ring_size }
-        ensures { result ≡ rung_to self.now tail }
+        ensures { result ≡ rung_count self.now tail }
     {
         self.rung + (tail + (RING_SLOTS - self.rung % RING_SLOTS)) % RING_SLOTS
     }
@@ -152,10 +152,10 @@ impl RingState {
     /// Moves the tail to a slot.
     pub(crate) fn set_tail(&mut self, tail: u32)
         requires slot { tail < ring_size }
-        requires posted { rung_to self.old tail ≤ self.old.posted }
-        ensures { self.new ≡ record self.old { rung = rung_to self.old tail } }
+        requires posted { rung_count self.old tail ≤ self.old.posted }
+        ensures { self.new ≡ record self.old { rung = rung_count self.old tail } }
     {
-        self.rung = self.rung_to(tail);
+        self.rung = self.rung_count(tail);
     }
 
     /// Posts a buffer behind the others.
