@@ -4,7 +4,10 @@
 
 mod counts;
 mod limits;
+mod mediator;
+mod registers;
 mod ring_state;
 
 pub use counts::Counts;
+pub use mediator::Mediator;
 pub use limits::{CAUSE_BITS, RECEIVE_CONTROL, TRANSMIT_CONTROL, TRANSMIT_FIXED};

@@ -96,6 +96,12 @@ impl RingState {
         }
     }
 
+    pub(crate) fn posted(&self) -> u32
+        ensures { result ≡ self.now.posted }
+    {
+        self.posted
+    }
+
     pub(crate) fn is_enabled(&self) -> bool
         ensures { result ≡ is_enabled self.now.control }
     {
