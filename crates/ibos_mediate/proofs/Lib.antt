@@ -1,3 +1,4 @@
 pub mod FirstLemmas
 pub mod RingLemmas
 pub mod WriteLemmas
+pub mod DeviceLemmas
