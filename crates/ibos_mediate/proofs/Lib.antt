@@ -2,3 +2,4 @@ pub mod FirstLemmas
 pub mod RingLemmas
 pub mod WriteLemmas
 pub mod DeviceLemmas
+pub mod StepLemmas
