@@ -1,3 +1,5 @@
 pub mod FirstLemmas
 pub mod RingLemmas
 pub mod WriteLemmas
+pub mod DeviceLemmas
+pub mod StepLemmas

@@ -140,3 +140,53 @@ pub record AreSame (r s : RingView) : Type 0 where
 
 pub same_ring : (r : RingView) → AreSame r r
 same_ring r = record { taken = refl; posted = refl; held = refl }
+
+open-same : (r s : RingView) (number : ℕ) → AreSame r s → IsOpen s number → IsOpen r number
+open-same r s number same is_open = (rw (← same.taken) is_open.0, rw (← same.posted) is_open.1)
+
+place-same : (r s : RingView) (number : ℕ) → AreSame r s → place_for s number ≡ place_for r number
+place-same r s number same = rw (same.held, same.taken) refl
+
+same_of : (m n : Mediated) → AreSame m.receive n.receive → AreSame m.transmit n.transmit → (ring : Ring) → AreSame (ring_of m ring) (ring_of n ring)
+same_of m n receive transmit Receive = receive
+same_of m n receive transmit Transmit = transmit
+
+-- their places differ as before
+pub apart-same : (m n : Mediated) → AreSame m.receive n.receive → AreSame m.transmit n.transmit → AreApart m → AreApart n
+apart-same m n receive transmit apart one other j k open_j open_k same =
+    let ones = same_of m n receive transmit one in
+    let others = same_of m n receive transmit other in
+    apart one other j k (open-same _ _ j ones open_j) (open-same _ _ k others open_k)
+    (sym (place-same _ _ j ones) ∙ same ∙ place-same _ _ k others)
+
+-- one of the two rings is another
+in_memory-receive : (m : Mediated) (mem : Memory) (r : RingView) → IsInMemory m mem → IsRingInMemory Receive mem r → AreSame m.receive r
+    → IsInMemory (record m { receive = r }) mem
+in_memory-receive m mem r old new same = record {
+  areas = old.areas;
+  receive = new;
+  transmit = old.transmit;
+  apart = apart-same m (record m { receive = r }) same (same_ring m.transmit) old.apart;
+}
+
+in_memory-transmit : (m : Mediated) (mem : Memory) (r : RingView) → IsInMemory m mem → IsRingInMemory Transmit mem r → AreSame m.transmit r
+    → IsInMemory (record m { transmit = r }) mem
+in_memory-transmit m mem r old new same = record {
+  areas = old.areas;
+  receive = old.receive;
+  transmit = new;
+  apart = apart-same m (record m { transmit = r }) (same_ring m.receive) same old.apart;
+}
+
+pub memory-written : (m : Mediated) (mem : Memory) (reg : Reg) (value : ℕ) → IsInMemory m mem → MayWrite m reg value → IsInMemory (after_writing reg value m) mem
+memory-written m mem Rctl value old (inl (is, off)) = in_memory-receive m mem _ old (ring-off Receive mem m.receive value off is old.receive) (record { taken = refl; posted = refl; held = refl })
+memory-written m mem Rctl value old (inr (is, set)) = in_memory-receive m mem _ old (ring-on Receive mem m.receive value (enabled-rctl value is) set old.receive) (record { taken = refl; posted = refl; held = refl })
+memory-written m mem Tctl value old (inl (is, off)) = in_memory-transmit m mem _ old (ring-off Transmit mem m.transmit value off is old.transmit) (record { taken = refl; posted = refl; held = refl })
+memory-written m mem Tctl value old (inr (is, set)) = in_memory-transmit m mem _ old (ring-on Transmit mem m.transmit value (enabled-tctl value is) set old.transmit) (record { taken = refl; posted = refl; held = refl })
+memory-written m mem Rdbal value old may = in_memory-receive m mem _ old (ring-base Receive mem m.receive value may.1 old.receive) (record { taken = refl; posted = refl; held = refl })
+memory-written m mem Rdlen value old may = in_memory-receive m mem _ old (ring-len Receive mem m.receive value may.1 old.receive) (record { taken = refl; posted = refl; held = refl })
+memory-written m mem Rdt value old may = in_memory-receive m mem _ old (ring-rung Receive mem m.receive value may.2 old.receive) (record { taken = refl; posted = refl; held = refl })
+memory-written m mem Tdbal value old may = in_memory-transmit m mem _ old (ring-base Transmit mem m.transmit value may.1 old.transmit) (record { taken = refl; posted = refl; held = refl })
+memory-written m mem Tdlen value old may = in_memory-transmit m mem _ old (ring-len Transmit mem m.transmit value may.1 old.transmit) (record { taken = refl; posted = refl; held = refl })
+memory-written m mem Tdt value old may = in_memory-transmit m mem _ old (ring-rung Transmit mem m.transmit value may.2 old.transmit) (record { taken = refl; posted = refl; held = refl })
+memory-written m mem other value old may = old
