@@ -3,3 +3,5 @@ pub mod RingLemmas
 pub mod WriteLemmas
 pub mod DeviceLemmas
 pub mod StepLemmas
+pub mod RuleLemmas
+pub mod PoolLemmas
