@@ -3,3 +3,4 @@ pub mod RingLemmas
 pub mod WriteLemmas
 pub mod DeviceLemmas
 pub mod StepLemmas
+pub mod ArriveLemmas
