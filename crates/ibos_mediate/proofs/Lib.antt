@@ -4,3 +4,4 @@ pub mod WriteLemmas
 pub mod DeviceLemmas
 pub mod StepLemmas
 pub mod ArriveLemmas
+pub mod TransmitLemmas
