@@ -67,7 +67,7 @@ module _ (tx_back : (d : TxDesc) → FitsTx d → tx_of (tx_bytes d) ≡ d) (tx_
         let small = address-small (place_for m.transmit a) (length mem) place in_memory.areas in
         let size = in_memory.transmit.inside a is_open in
         let bytes : bytes_at new (descriptor_at Transmit a) DESCRIPTOR_BYTES ≡ tx_bytes after =
-            subst (λ n. bytes_at new (descriptor_at Transmit a) n ≡ tx_bytes after) (tx_length after) sent.written in
+        subst (λ n. bytes_at new (descriptor_at Transmit a) n ≡ tx_bytes after) (tx_length after) sent.written in
         ap tx_of bytes ∙ tx_back after (rw was (record { address = omega arith; length = omega arith; special = omega arith }))
 
     done : is_done Transmit new a ≡ true

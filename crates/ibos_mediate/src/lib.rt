@@ -1,3 +1,10 @@
 //! The mediator between the driver of a network card and the card: which registers the driver may write, which buffers
 //! a ring holds, and what the memory, the pool and the card then are.
 #![tactic(auto)]
+
+mod laws;
+
+pub use laws::{
+    arrivals_keep_the_relation, reads_keep_the_relation, transmissions_keep_the_relation,
+    writes_keep_the_relation,
+};
