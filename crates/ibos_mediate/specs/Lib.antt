@@ -1,3 +1,5 @@
 pub mod Mediated
 pub mod Relation
+pub mod Rules
+pub mod States
 pub mod Writes

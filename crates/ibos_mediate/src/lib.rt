@@ -2,9 +2,17 @@
 //! a ring holds, and what the memory, the pool and the card then are.
 #![tactic(auto)]
 
+mod counts;
 mod laws;
+mod limits;
+mod mediator;
+mod registers;
+mod ring_state;
 
+pub use counts::Counts;
 pub use laws::{
     arrivals_keep_the_relation, reads_keep_the_relation, transmissions_keep_the_relation,
     writes_keep_the_relation,
 };
+pub use limits::{CAUSE_BITS, RECEIVE_CONTROL, TRANSMIT_CONTROL, TRANSMIT_FIXED};
+pub use mediator::Mediator;
