@@ -5,3 +5,5 @@ pub mod DeviceLemmas
 pub mod StepLemmas
 pub mod RuleLemmas
 pub mod PoolLemmas
+pub mod ArriveLemmas
+pub mod TransmitLemmas

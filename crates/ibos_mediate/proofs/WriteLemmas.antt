@@ -7,7 +7,7 @@ use Rattle.ibos_pool.specs.declared.name.Ring.{Ring}
 use Rattle.ibos_pool.specs.declared.name.Ring.TheVariants.{Receive, Transmit}
 use Rattle.ibos_pool.specs.declared.limits.TheConstants.{BUFFER_BYTES, DESCRIPTOR_BYTES, RING_BYTES}
 use Rattle.ibos_pool.specs.Memory.{IsLent, Memory}
-use Rattle.ibos_pool.specs.Names.{Held}
+use Rattle.ibos_pool.specs.Names.{Names}
 use Rattle.ibos_pool.specs.Places.{IsInside, address_of, ring_base, slot_address}
 use Rattle.ibos_nic.specs.declared.reg.Reg.{Reg}
 use Rattle.ibos_nic.specs.declared.reg.Reg.TheVariants.{Ctrl, Status, Icr, Ims, Imc, Rctl, Tctl, Rdbal, Rdbah, Rdlen, Rdh, Rdt, Tdbal, Tdbah, Tdlen, Tdh, Tdt, Mpc, Ral0, Rah0}
@@ -16,7 +16,7 @@ use Rattle.ibos_nic.specs.declared.descriptor.TxDesc.{TxDesc}
 use Rattle.ibos_nic.specs.Device.{MayMoveTail, MayReceive, MayTransmit, distance, rx_at, tx_at}
 use Rattle.ibos_nic.specs.Registers.{Registers, after_read, after_write, descriptor_address, is_enabled, ring_size}
 use Rattle.ibos_mediate.specs.Mediated.{IsBalanced, Mediated, RingView}
-use Rattle.ibos_mediate.specs.Relation.{AreApart, IsAsPosted, IsAtDevice, IsConfigured, IsInMemory, IsOpen, IsRingAtDevice, IsRingInMemory, address_in, base_reg, completed, control_reg, descriptor_at, head_reg, held_for, high_reg, len_reg, length_for, place_for, posted_rx, posted_tx, ring_of, slot_of, tail_reg}
+use Rattle.ibos_mediate.specs.Relation.{AreApart, IsAsPosted, IsAtDevice, IsConfigured, IsInMemory, IsInPool, IsOpen, IsRingAtDevice, IsRingInMemory, address_in, base_reg, completed, control_reg, descriptor_at, head_reg, held_for, high_reg, len_reg, length_for, place_for, posted_rx, posted_tx, ring_of, slot_of, tail_reg}
 use Rattle.ibos_mediate.specs.Writes.{IsDisabled, MayRing, MayWrite, after_writing, rung_to}
 use Rattle.ibos_mediate.proofs.RingLemmas.{completed-low}
 
@@ -190,3 +190,15 @@ memory-written m mem Tdbal value old may = in_memory-transmit m mem _ old (ring-
 memory-written m mem Tdlen value old may = in_memory-transmit m mem _ old (ring-len Transmit mem m.transmit value may.1 old.transmit) (record { taken = refl; posted = refl; held = refl })
 memory-written m mem Tdt value old may = in_memory-transmit m mem _ old (ring-rung Transmit mem m.transmit value may.2 old.transmit) (record { taken = refl; posted = refl; held = refl })
 memory-written m mem other value old may = old
+
+-- no buffer changes its ring by a write
+pub pool-written : (m : Mediated) (names : Names) (reg : Reg) (value : ℕ) → IsInPool m names → IsInPool (after_writing reg value m) names
+pool-written m names Rctl value old = record { loans = old.loans; area = old.area; apart = old.apart }
+pool-written m names Rdbal value old = record { loans = old.loans; area = old.area; apart = old.apart }
+pool-written m names Rdlen value old = record { loans = old.loans; area = old.area; apart = old.apart }
+pool-written m names Rdt value old = record { loans = old.loans; area = old.area; apart = old.apart }
+pool-written m names Tctl value old = record { loans = old.loans; area = old.area; apart = old.apart }
+pool-written m names Tdbal value old = record { loans = old.loans; area = old.area; apart = old.apart }
+pool-written m names Tdlen value old = record { loans = old.loans; area = old.area; apart = old.apart }
+pool-written m names Tdt value old = record { loans = old.loans; area = old.area; apart = old.apart }
+pool-written m names other value old = old

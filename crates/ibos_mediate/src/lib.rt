@@ -3,11 +3,16 @@
 #![tactic(auto)]
 
 mod counts;
+mod laws;
 mod limits;
 mod mediator;
 mod registers;
 mod ring_state;
 
 pub use counts::Counts;
-pub use mediator::Mediator;
+pub use laws::{
+    arrivals_keep_the_relation, reads_keep_the_relation, transmissions_keep_the_relation,
+    writes_keep_the_relation,
+};
 pub use limits::{CAUSE_BITS, RECEIVE_CONTROL, TRANSMIT_CONTROL, TRANSMIT_FIXED};
+pub use mediator::Mediator;
