@@ -7,3 +7,4 @@ pub mod RuleLemmas
 pub mod PoolLemmas
 pub mod ArriveLemmas
 pub mod TransmitLemmas
+pub mod PostLemmas
