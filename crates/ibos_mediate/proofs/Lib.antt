@@ -8,3 +8,5 @@ pub mod PoolLemmas
 pub mod ArriveLemmas
 pub mod TransmitLemmas
 pub mod PostLemmas
+pub mod TakeLemmas
+pub mod PostedLemmas
