@@ -10,3 +10,4 @@ pub mod TransmitLemmas
 pub mod PostLemmas
 pub mod TakeLemmas
 pub mod PostedLemmas
+pub mod TakenLemmas
