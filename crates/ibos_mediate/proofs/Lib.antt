@@ -4,10 +4,10 @@ pub mod WriteLemmas
 pub mod DeviceLemmas
 pub mod StepLemmas
 pub mod RuleLemmas
-pub mod PoolLemmas
 pub mod ArriveLemmas
 pub mod TransmitLemmas
 pub mod PostLemmas
 pub mod TakeLemmas
 pub mod PostedLemmas
 pub mod TakenLemmas
+pub mod PoolLemmas

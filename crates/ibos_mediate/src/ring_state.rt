@@ -104,6 +104,12 @@ impl RingState {
         self.posted
     }
 
+    pub(crate) fn taken(&self) -> u32
+        ensures { result ≡ self.now.taken }
+    {
+        self.taken
+    }
+
     /// The slot of the next post.
     pub(crate) fn next_slot(&self) -> u32
         ensures slot { result ≡ slot_of self.now.posted }

@@ -47,6 +47,8 @@ impl Mediator {
         ensures turn { result ≡ slice_index self.old.turns index + 1 }
         ensures after { self.new ≡ record self.old { turns = with_turn self.old.turns index } }
     {
+        // No turn passes the count of all that was taken back.
+        let _most = self.receive.taken();
         let turn = &mut self.turns[usize::from(index)];
         *turn += 1;
         *turn
