@@ -11,3 +11,4 @@ pub mod TakeLemmas
 pub mod PostedLemmas
 pub mod TakenLemmas
 pub mod PoolLemmas
+pub mod CallLemmas

@@ -83,6 +83,14 @@ transmit-empty mem r empty =
     let none = completed-empty Transmit mem r empty in
     (λ f. absurd (let clash : false ≡ true = f in cc), λ more. absurd (omega arith))
 
+pub transmit-unsent : (mem : Memory) (r : RingView) → (r.taken < completed Transmit mem r → IsTrue false) → completed Transmit mem r ≡ r.taken
+transmit-unsent mem r not_more =
+    let low = completed-low Transmit mem r in
+    ⊎_elim
+    (λ (more : r.taken < completed Transmit mem r). absurd (let clash : false ≡ true = not_more more in cc))
+    (λ (none : completed Transmit mem r ≤ r.taken). omega arith)
+    (cases_lt r.taken (completed Transmit mem r))
+
 pub transmit-sent : (mem : Memory) (r : RingView) (slot : ℕ) (d : TxDesc) → r.taken < r.posted → slot ≡ slot_of r.taken → d ≡ tx_at mem (slot_address Transmit slot)
     → (IsTrue (bit_and d.sta DONE == DONE) → r.taken < completed Transmit mem r) × (r.taken < completed Transmit mem r → IsTrue (bit_and d.sta DONE == DONE))
 transmit-sent mem r slot d some at is = (

@@ -1,10 +1,29 @@
+use Rattle.std.proofs.Common.{◌≡◌, ◌<◌, refl, subst, sym}
+use Rattle.ibos_pool.specs.declared.name.Ring.TheVariants.{Transmit}
+use Rattle.ibos_mediate.specs.Mediated.{Mediated}
+use Rattle.ibos_mediate.specs.Relation.{IsAtDevice, IsInMemory, completed}
+use Rattle.ibos_mediate.proofs.CallLemmas.{tx_taken-device, tx_taken-memory}
+use Rattle.ibos_mediate.proofs.TakeLemmas.{transmit-unsent}
 use Rattle.ibos_mediate.proofs.mediator.Mediator.tx_take.Goals as goal
 
 pub returns-then-not-is_sent-clause-none : goal.returns-then-not-is_sent-clause-none
-returns-then-not-is_sent-clause-none c = ?
+returns-then-not-is_sent-clause-none c = (λ none. transmit-unsent c.args.mem.now c.args.self.now.transmit c.if-not-is_sent.ensures.1, λ all. refl)
 
 pub returns-clause-memory : goal.returns-clause-memory
-returns-clause-memory c = ?
+returns-clause-memory c =
+    let m0 : Mediated = record { receive = c.self.inside.receive; transmit = c.self.inside.transmit; turns = c.self.inside.turns } in
+    let PM : Mediated → Type 0 = λ m. IsInMemory m c.args.mem.now in
+    let PC : Mediated → Type 0 = λ m. m.transmit.taken < completed Transmit c.args.mem.now m.transmit in
+    let memory = subst PM (sym c.self.view_is) c.requires.memory in
+    let more = subst PC (sym c.self.view_is) (c.if-not-is_sent.ensures.0 refl) in
+    tx_taken-memory m0 c.args.mem.now c.regain.new.self c.take-away.result c.take-away.new.self memory more c.take-away.ensures.value c.regain.ensures.marked c.take-away.ensures.after
 
 pub returns-clause-device : goal.returns-clause-device
-returns-clause-device c = ?
+returns-clause-device c = λ regs old.
+    let m0 : Mediated = record { receive = c.self.inside.receive; transmit = c.self.inside.transmit; turns = c.self.inside.turns } in
+    let PM : Mediated → Type 0 = λ m. IsInMemory m c.args.mem.now in
+    let PC : Mediated → Type 0 = λ m. m.transmit.taken < completed Transmit c.args.mem.now m.transmit in
+    let memory = subst PM (sym c.self.view_is) c.requires.memory in
+    let more = subst PC (sym c.self.view_is) (c.if-not-is_sent.ensures.0 refl) in
+    let PD : Mediated → Type 0 = λ m. IsAtDevice m c.args.mem.now regs in
+    tx_taken-device m0 c.args.mem.now c.regain.new.self c.take-away.result c.take-away.new.self memory more c.take-away.ensures.value c.regain.ensures.marked c.take-away.ensures.after regs (subst PD (sym c.self.view_is) old)
