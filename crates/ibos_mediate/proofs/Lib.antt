@@ -5,3 +5,5 @@ pub mod DeviceLemmas
 pub mod StepLemmas
 pub mod ArriveLemmas
 pub mod TransmitLemmas
+pub mod PutLemmas
+pub mod PostLemmas
