@@ -1,5 +1,6 @@
 -- A post keeps the relation.
 use Rattle.std.proofs.Common.{◌≡◌, ◌≢◌, ℕ, ◌+◌, ◌-◌, ◌%◌, ◌^◌, ◌<◌, ◌≤◌, ◌⊎◌, List, [], ◌∷◌, ◌++◌, Bool, true, false, cond, length, get_or, refl, sym, ◌∙◌, ap, inl, inr, ⊎_elim, subst, arith}
+use Rattle.std.proofs.lemmas.Bool.Decides.{nat_tests}
 use Rattle.std.proofs.lemmas.Bool.{cases_eq, cases_lt}
 use Rattle.std.proofs.lemmas.List.{get_or_append_left, get_or_push, length_push}
 use Rattle.std.specs.Prelude.{IsFalse, IsTrue}
@@ -9,7 +10,7 @@ use Rattle.ibos_pool.specs.declared.place.Place.{Place}
 use Rattle.ibos_pool.specs.declared.limits.TheConstants.{BUFFER_BYTES, DESCRIPTOR_BYTES, MOST_AREAS}
 use Rattle.ibos_pool.specs.Memory.{IsKept, IsLent, IsMarked, IsWritten, Memory, is_lent_at}
 use Rattle.ibos_pool.specs.Names.{Held}
-use Rattle.ibos_pool.specs.Places.{IsPlaceIn, address_of, same_place}
+use Rattle.ibos_pool.specs.Places.{IsApart, IsPlaceIn, address_of, same_place}
 use Rattle.ibos_nic.specs.declared.descriptor.RxDesc.{RxDesc}
 use Rattle.ibos_nic.specs.declared.descriptor.TxDesc.{TxDesc}
 use Rattle.ibos_nic.specs.Registers.{Registers, ring_size}
@@ -133,3 +134,119 @@ module _ (ring : Ring) (old new : Memory) (r : RingView) (h : Held) (len : ℕ) 
         enabled = λ on. let configured = in_old.enabled on in record { base = configured.base; len = configured.len };
         idle = λ off. stays ∙ in_old.idle off;
       }
+
+-- a test that holds in either way
+pub either_true : (test old : Bool) → old ≡ true → cond test true old ≡ true
+either_true true old is = refl
+either_true false old is = is
+
+pub test_true : (test old : Bool) → test ≡ true → cond test true old ≡ true
+test_true true old is = refl
+test_true false old is = absurd (let clash : false ≡ true = is in cc)
+
+pub same_itself : (p : Place) → same_place p p ≡ true
+same_itself p = grind (arith, nat_tests)
+
+-- A buffer that was not lent is lent, and the descriptor behind the others names it.
+module _ (ring : Ring) (m : Mediated) (mem mid new : Memory) (h : Held) (len : ℕ) (bytes : List ℕ) (turns : List ℕ) (in_memory : IsInMemory m mem)
+    (kept : IsKept mem h.place) (marked : IsMarked mem mid h.place true) (size : length bytes ≡ DESCRIPTOR_BYTES)
+    (wrote : IsWritten mid new (descriptor_at ring (ring_of m ring).posted) bytes)
+    (as_posted : IsAsPosted ring new (ring_of m ring).posted (address_of h.place) len)
+    (room : (ring_of m ring).posted < (ring_of m ring).taken + (ring_size - 1)) (small : len ≤ BUFFER_BYTES) where
+  abbrev r : RingView
+  r = ring_of m ring
+
+  abbrev after : Mediated
+  after = put_ring ring (with_post (ring_of m ring) h len) turns m
+
+  areas : length new ≡ length mem
+  areas = wrote.areas ∙ marked.areas
+
+  in_ring : IsRingInMemory ring mem (ring_of m ring)
+  in_ring = ring_in m mem ring in_memory
+
+  stays-at : (other : Ring) (number : ℕ) → IsApart (descriptor_at other number) DESCRIPTOR_BYTES (descriptor_at ring (ring_of m ring).posted) DESCRIPTOR_BYTES
+      → descriptor_of other new number ≡ descriptor_of other mem number
+  stays-at other number apart =
+      wrote.others (descriptor_at other number) DESCRIPTOR_BYTES (rw size apart) ∙ marked.bytes (descriptor_at other number) DESCRIPTOR_BYTES
+
+  -- the slot of the post is that of no open descriptor
+  stays-here : (number : ℕ) → IsOpen (ring_of m ring) number → descriptor_of ring new number ≡ descriptor_of ring mem number
+  stays-here number is_open =
+      let low = is_open.0 in
+      let high = is_open.1 in
+      stays-at ring number (descriptors_apart ring number (ring_of m ring).posted (λ same. omega arith))
+
+  stays-there : (other : Ring) → other ≢ ring → (number : ℕ) → descriptor_of other new number ≡ descriptor_of other mem number
+  stays-there other differ number = stays-at other number (rings_apart other ring number (ring_of m ring).posted differ)
+
+  lent-still : (p : Place) → IsLent mem p → IsLent new p
+  lent-still p lent = record {
+    place = rw areas lent.place;
+    lent = wrote.lent p ∙ marked.lent p ∙ either_true (same_place p h.place) (is_lent_at mem p) lent.lent;
+  }
+
+  lent-new : IsLent new h.place
+  lent-new = record {
+    place = rw areas kept.place;
+    lent = wrote.lent h.place ∙ marked.lent h.place ∙ test_true (same_place h.place h.place) (is_lent_at mem h.place) (same_itself h.place);
+  }
+
+  rings-post : (one : Ring) → IsRingInMemory one new (ring_of after one)
+  rings-post = of_each (λ one view. IsRingInMemory one new view) ring (with_post (ring_of m ring) h len) turns m
+      (ring-post ring mem new (ring_of m ring) h len in_ring room small stays-here as_posted
+      (λ number is_open. lent-still _ (in_ring.lent number is_open)) lent-new)
+      (λ other differ.
+      let there = ring_in m mem other in_memory in
+      ring-stays other mem new (ring_of m other) there (λ number is_open. stays-there other differ number)
+      (λ number is_open. lent-still _ (there.lent number is_open)))
+
+  IsPosted : Ring → RingView → ℕ → Type 0
+  IsPosted one view number = (one ≡ ring) × (number ≡ (ring_of m ring).posted) × (place_for view number ≡ h.place)
+
+  WasOpen : Ring → RingView → ℕ → Type 0
+  WasOpen one view number = IsOpen (ring_of m one) number × (place_for view number ≡ place_for (ring_of m one) number)
+
+  was : (one : Ring) (number : ℕ) → IsOpen (ring_of after one) number → IsPosted one (ring_of after one) number ⊎ WasOpen one (ring_of after one) number
+  unfolding IsPosted WasOpen
+  was = of_each (λ one view. (number : ℕ) → IsOpen view number → IsPosted one view number ⊎ WasOpen one view number) ring (with_post (ring_of m ring) h len) turns m
+      (λ number is_open'. ⊎_elim
+      (λ (last : number ≡ (ring_of m ring).posted).
+      inl (refl, last, ap (λ n. place_for (with_post (ring_of m ring) h len) n) last ∙ ap (λ (b : Held). b.place) (held-new (ring_of m ring) h len in_ring.balanced)))
+      (λ (is_open : IsOpen (ring_of m ring) number).
+      inr (is_open, ap (λ (b : Held). b.place) (held-old (ring_of m ring) h len number in_ring.balanced is_open)))
+      (open-post (ring_of m ring) h len number is_open'))
+      (λ other differ number is_open. inr (is_open, refl))
+
+  -- an open descriptor's place was lent, and the new one was not
+  not_new : (one : Ring) (number : ℕ) → IsOpen (ring_of m one) number → place_for (ring_of m one) number ≡ h.place → ⊥
+  not_new one number is_open same =
+      let lent = (ring_in m mem one in_memory).lent number is_open in
+      let clash : false ≡ true = sym kept.kept ∙ ap (is_lent_at mem) (sym same) ∙ lent.lent in
+      cc
+
+  apart-post : AreApart after
+  unfolding IsPosted WasOpen
+  apart-post one other j k open_j open_k same =
+      ⊎_elim
+      (λ (new_j : IsPosted one (ring_of after one) j). ⊎_elim
+      (λ (new_k : IsPosted other (ring_of after other) k). (new_j.0 ∙ sym new_k.0, new_j.1 ∙ sym new_k.1))
+      (λ (old_k : WasOpen other (ring_of after other) k). absurd (not_new other k old_k.0 (sym old_k.1 ∙ sym same ∙ new_j.2)))
+      (was other k open_k))
+      (λ (old_j : WasOpen one (ring_of after one) j). ⊎_elim
+      (λ (new_k : IsPosted other (ring_of after other) k). absurd (not_new one j old_j.0 (sym old_j.1 ∙ same ∙ new_k.2)))
+      (λ (old_k : WasOpen other (ring_of after other) k). in_memory.apart one other j k old_j.0 old_k.0 (sym old_j.1 ∙ same ∙ old_k.1))
+      (was other k open_k))
+      (was one j open_j)
+
+  pub memory-post : IsInMemory after new
+  memory-post = in_memory-from after new (rw areas in_memory.areas) rings-post apart-post
+
+  pub device-post : (regs : Registers) → IsAtDevice m mem regs → IsAtDevice after new regs
+  device-post regs device = at_device-from after new regs (of_each (λ one view. IsRingAtDevice one new regs view) ring (with_post (ring_of m ring) h len) turns m
+      (ring_at-same ring mem new regs (ring_of m ring) (with_post (ring_of m ring) h len) (ring_at m mem regs ring device)
+      (completed-post ring mem new (ring_of m ring) h len in_ring room small stays-here as_posted) refl refl refl refl)
+      (λ other differ.
+      let there = ring_in m mem other in_memory in
+      ring_at-same other mem new regs (ring_of m other) (ring_of m other) (ring_at m mem regs other device)
+      (completed-stays other mem new (ring_of m other) there (λ number is_open. stays-there other differ number)) refl refl refl refl))
