@@ -6,4 +6,4 @@ pub mod StepLemmas
 pub mod ArriveLemmas
 pub mod TransmitLemmas
 pub mod PutLemmas
-pub mod PostLemmas
+pub mod PostedLemmas
