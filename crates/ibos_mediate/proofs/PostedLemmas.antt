@@ -8,7 +8,7 @@ use Rattle.ibos_pool.specs.declared.name.Ring.{Ring}
 use Rattle.ibos_pool.specs.declared.name.Ring.TheVariants.{Receive, Transmit}
 use Rattle.ibos_pool.specs.declared.place.Place.{Place}
 use Rattle.ibos_pool.specs.declared.limits.TheConstants.{BUFFER_BYTES, DESCRIPTOR_BYTES, MOST_AREAS}
-use Rattle.ibos_pool.specs.Memory.{IsKept, IsLent, IsMarked, IsWritten, Memory, is_lent_at}
+use Rattle.ibos_pool.specs.Memory.{IsKept, IsLent, Memory, bytes_at, is_lent_at}
 use Rattle.ibos_pool.specs.Names.{Held}
 use Rattle.ibos_pool.specs.Places.{IsApart, IsPlaceIn, address_of, same_place}
 use Rattle.ibos_nic.specs.declared.descriptor.RxDesc.{RxDesc}
@@ -148,9 +148,10 @@ pub same_itself : (p : Place) → same_place p p ≡ true
 same_itself p = grind (arith, nat_tests)
 
 -- A buffer that was not lent is lent, and the descriptor behind the others names it.
-module _ (ring : Ring) (m : Mediated) (mem mid new : Memory) (h : Held) (len : ℕ) (bytes : List ℕ) (turns : List ℕ) (in_memory : IsInMemory m mem)
-    (kept : IsKept mem h.place) (marked : IsMarked mem mid h.place true) (size : length bytes ≡ DESCRIPTOR_BYTES)
-    (wrote : IsWritten mid new (descriptor_at ring (ring_of m ring).posted) bytes)
+module _ (ring : Ring) (m : Mediated) (mem new : Memory) (h : Held) (len : ℕ) (turns : List ℕ) (in_memory : IsInMemory m mem) (kept : IsKept mem h.place)
+    (others : (from n : ℕ) → IsApart from n (descriptor_at ring (ring_of m ring).posted) DESCRIPTOR_BYTES → bytes_at new from n ≡ bytes_at mem from n)
+    (marks : (p : Place) → is_lent_at new p ≡ cond (same_place p h.place) true (is_lent_at mem p))
+    (areas : length new ≡ length mem)
     (as_posted : IsAsPosted ring new (ring_of m ring).posted (address_of h.place) len)
     (room : (ring_of m ring).posted < (ring_of m ring).taken + (ring_size - 1)) (small : len ≤ BUFFER_BYTES) where
   abbrev r : RingView
@@ -159,16 +160,12 @@ module _ (ring : Ring) (m : Mediated) (mem mid new : Memory) (h : Held) (len : �
   abbrev after : Mediated
   after = put_ring ring (with_post (ring_of m ring) h len) turns m
 
-  areas : length new ≡ length mem
-  areas = wrote.areas ∙ marked.areas
-
   in_ring : IsRingInMemory ring mem (ring_of m ring)
   in_ring = ring_in m mem ring in_memory
 
   stays-at : (other : Ring) (number : ℕ) → IsApart (descriptor_at other number) DESCRIPTOR_BYTES (descriptor_at ring (ring_of m ring).posted) DESCRIPTOR_BYTES
       → descriptor_of other new number ≡ descriptor_of other mem number
-  stays-at other number apart =
-      wrote.others (descriptor_at other number) DESCRIPTOR_BYTES (rw size apart) ∙ marked.bytes (descriptor_at other number) DESCRIPTOR_BYTES
+  stays-at other number apart = others (descriptor_at other number) DESCRIPTOR_BYTES apart
 
   -- the slot of the post is that of no open descriptor
   stays-here : (number : ℕ) → IsOpen (ring_of m ring) number → descriptor_of ring new number ≡ descriptor_of ring mem number
@@ -183,13 +180,13 @@ module _ (ring : Ring) (m : Mediated) (mem mid new : Memory) (h : Held) (len : �
   lent-still : (p : Place) → IsLent mem p → IsLent new p
   lent-still p lent = record {
     place = rw areas lent.place;
-    lent = wrote.lent p ∙ marked.lent p ∙ either_true (same_place p h.place) (is_lent_at mem p) lent.lent;
+    lent = marks p ∙ either_true (same_place p h.place) (is_lent_at mem p) lent.lent;
   }
 
   lent-new : IsLent new h.place
   lent-new = record {
     place = rw areas kept.place;
-    lent = wrote.lent h.place ∙ marked.lent h.place ∙ test_true (same_place h.place h.place) (is_lent_at mem h.place) (same_itself h.place);
+    lent = marks h.place ∙ test_true (same_place h.place h.place) (is_lent_at mem h.place) (same_itself h.place);
   }
 
   rings-post : (one : Ring) → IsRingInMemory one new (ring_of after one)
