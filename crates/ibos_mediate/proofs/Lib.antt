@@ -7,3 +7,4 @@ pub mod ArriveLemmas
 pub mod TransmitLemmas
 pub mod PutLemmas
 pub mod PostedLemmas
+pub mod TakenLemmas
