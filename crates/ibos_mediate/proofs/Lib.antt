@@ -8,3 +8,4 @@ pub mod TransmitLemmas
 pub mod PutLemmas
 pub mod PostedLemmas
 pub mod TakenLemmas
+pub mod OtherLemmas
