@@ -6,6 +6,4 @@ pub mod StepLemmas
 pub mod ArriveLemmas
 pub mod TransmitLemmas
 pub mod PutLemmas
-pub mod PostedLemmas
-pub mod TakenLemmas
 pub mod OtherLemmas
