@@ -3,7 +3,12 @@ pub mod RingLemmas
 pub mod WriteLemmas
 pub mod DeviceLemmas
 pub mod StepLemmas
+pub mod RuleLemmas
+pub mod PoolLemmas
 pub mod ArriveLemmas
 pub mod TransmitLemmas
+pub mod PostLemmas
+pub mod TakeLemmas
+pub mod PostedLemmas
 pub mod PutLemmas
 pub mod OtherLemmas

@@ -124,12 +124,12 @@ pub ring-rung : (ring : Ring) (mem : Memory) (r : RingView) (slot : ℕ) → May
 ring-rung ring mem r slot fits old =
     ring-kept ring mem r r.base r.len r.control (r.rung + distance r.rung slot) old (omega arith) fits (λ on. let configured = old.enabled on in (configured.base, configured.len)) (λ off. off)
 
-enabled-tctl : (value : ℕ) → bit_and value 0xffc0000f ≡ 2 → IsTrue (is_enabled value)
+pub enabled-tctl : (value : ℕ) → bit_and value 0xffc0000f ≡ 2 → IsTrue (is_enabled value)
 enabled-tctl value two =
     let back : bit_and value 2 ≡ 2 = sym (and_assoc 2 value 0xffc0000f) ∙ ap (λ x. bit_and x 2) two in
     rw back refl
 
-enabled-rctl : (value : ℕ) → value ≡ 0x04008002 → IsTrue (is_enabled value)
+pub enabled-rctl : (value : ℕ) → value ≡ 0x04008002 → IsTrue (is_enabled value)
 enabled-rctl value same = rw same refl
 
 -- Rings whose descriptors are the same.

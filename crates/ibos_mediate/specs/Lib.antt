@@ -1,4 +1,5 @@
 pub mod Mediated
+pub mod Posts
 pub mod Relation
 pub mod Rules
 pub mod States

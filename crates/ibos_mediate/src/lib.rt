@@ -3,6 +3,7 @@
 #![tactic(auto)]
 
 mod counts;
+mod descriptors;
 mod laws;
 mod limits;
 mod mediator;
@@ -14,5 +15,5 @@ pub use laws::{
     arrivals_keep_the_relation, reads_keep_the_relation, transmissions_keep_the_relation,
     writes_keep_the_relation,
 };
-pub use limits::{CAUSE_BITS, RECEIVE_CONTROL, TRANSMIT_CONTROL, TRANSMIT_FIXED};
+pub use limits::{CAUSE_BITS, RECEIVE_CONTROL, TRANSMIT_COMMAND, TRANSMIT_CONTROL, TRANSMIT_FIXED};
 pub use mediator::Mediator;

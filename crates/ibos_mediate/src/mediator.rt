@@ -1,5 +1,5 @@
 //! The mediator.
-ghost use Rattle.std.specs.Prelude.{◌≡◌, ◌<◌, ◌≤◌, ◌^◌, List, ℕ, None, Some, length, slice_index, replicate, IfErr, IfOk, IfSome, OnErr, OnOk};
+ghost use Rattle.std.specs.Prelude.{◌≡◌, ◌<◌, ◌≤◌, ◌^◌, List, ℕ, None, Some, length, slice_index, replicate, IfErr, IfOk, IfSome, IsTrue, OnErr, OnOk};
 ghost use Rattle.ibos_pool.specs.declared.name.Ring.TheVariants.{Receive, Transmit};
 ghost use Rattle.ibos_pool.specs.Memory.{Memory as Areas};
 ghost use Rattle.ibos_pool.specs.Names.{Names};
@@ -7,7 +7,7 @@ ghost use Rattle.ibos_nic.specs.declared.reg.Reg.{Reg};
 ghost use Rattle.ibos_nic.specs.Registers.{after_read, after_write};
 ghost use Rattle.ibos_mediate.specs.Mediated.{IsBalanced};
 ghost use Rattle.ibos_mediate.specs.Relation.{IsAtDevice, IsInMemory, IsInPool};
-ghost use Rattle.ibos_mediate.specs.Rules.{read_rule, reg_at, slot_rule, write_rule, write_rule_of, is_after_enable, is_beyond_posted, is_unconfigured};
+ghost use Rattle.ibos_mediate.specs.Rules.{read_rule, reg_at, slot_rule, write_rule, write_rule_of, is_after_enable, is_beyond_posted, is_unconfigured, is_value};
 ghost use Rattle.ibos_mediate.specs.States.{no_ring};
 ghost use Rattle.ibos_mediate.specs.Writes.{MayWrite, after_writing};
 
@@ -125,6 +125,7 @@ impl Mediator {
     }
 
     fn is_beyond_posted(&self, reg: Reg, value: u32) -> bool
+        requires { IsTrue (is_value reg value) }
         ensures { result ≡ is_beyond_posted self.now reg value }
     {
         match reg {

@@ -1,0 +1,85 @@
+-- What a ring is after its oldest descriptor was taken back.
+use Rattle.std.proofs.Common.{◌≡◌, ◌≢◌, ℕ, zero, suc, ◌+◌, ◌-◌, ◌*◌, ◌%◌, ◌<◌, ◌≤◌, ◌⊎◌, ◌==◌, List, [], ◌∷◌, Bool, true, false, length, drop, refl, sym, ◌∙◌, ap, inl, inr, ⊎_elim, subst, arith, length-drop}
+use Rattle.std.proofs.lemmas.Bool.{cases_eq, cases_lt}
+use Rattle.std.proofs.lemmas.List.{get_or-drop}
+use Rattle.std.specs.Prelude.{IsFalse, IsTrue, slice_index, slice_index_or}
+use Rattle.ibos_pool.specs.declared.name.Ring.{Ring}
+use Rattle.ibos_pool.specs.declared.limits.TheConstants.{BUFFER_BYTES, DESCRIPTOR_BYTES}
+use Rattle.ibos_pool.specs.Memory.{IsLent, Memory}
+use Rattle.ibos_pool.specs.Names.{Held}
+use Rattle.ibos_pool.specs.Places.{address_of}
+use Rattle.ibos_nic.specs.Registers.{ring_size}
+use Rattle.ibos_mediate.specs.Mediated.{IsBalanced, RingView}
+use Rattle.ibos_mediate.specs.Relation.{IsAsPosted, IsOpen, IsRingInMemory, address_in, completed, descriptor_at, held_for, is_done, length_for, no_buffer, place_for}
+use Rattle.ibos_mediate.specs.Rules.{after_take}
+use Rattle.ibos_mediate.proofs.RingLemmas.{completed-before, completed-high, completed-is, completed-low, completed-undone}
+use Rattle.ibos_mediate.proofs.StepLemmas.{address-same, descriptor_of, done-same, posted-same, told-same}
+
+-- the later descriptors have the buffers that they had
+pub held-after : (r : RingView) (number : ℕ) → r.taken + 1 ≤ number → held_for (after_take r) number ≡ held_for r number
+held-after r number later =
+    let at : 1 + (number - (r.taken + 1)) ≡ number - r.taken = omega arith in
+    get_or-drop 1 r.held (number - (r.taken + 1)) no_buffer ∙ ap (λ i. slice_index_or r.held i no_buffer) at
+
+pub length-after : (r : RingView) (number : ℕ) → r.taken + 1 ≤ number → length_for (after_take r) number ≡ length_for r number
+length-after r number later =
+    let at : 1 + (number - (r.taken + 1)) ≡ number - r.taken = omega arith in
+    get_or-drop 1 r.lengths (number - (r.taken + 1)) 0 ∙ ap (λ i. slice_index r.lengths i) at
+
+module _ (ring : Ring) (old new : Memory) (r : RingView) (in_old : IsRingInMemory ring old r) (more : r.taken < completed ring old r)
+    (same : (number : ℕ) → IsOpen (after_take r) number → descriptor_of ring new number ≡ descriptor_of ring old number) where
+  -- the device is done with the same descriptors
+  pub completed-taken : completed ring new (after_take r) ≡ completed ring old r
+  completed-taken =
+      let order = in_old.balanced.rung in
+      let order' = in_old.balanced.posted in
+      let high = completed-high ring old r (omega arith) in
+      completed-is ring new (after_take r) (completed ring old r) (omega arith) high
+      (λ k from below. done-same ring old new k (same k (from, omega arith)) ∙ completed-before ring old r k (omega arith) below)
+      (⊎_elim
+      (λ (below : completed ring old r < r.posted). inr (done-same ring old new _ (same _ (omega arith, below)) ∙ completed-undone ring old r below))
+      (λ (past : r.posted ≤ completed ring old r). inl (omega arith))
+      (cases_lt (completed ring old r) r.posted))
+
+  pub ring-taken : ((number : ℕ) → IsOpen (after_take r) number → IsLent new (place_for r number)) → IsRingInMemory ring new (after_take r)
+  ring-taken lent =
+      let stays = completed-taken in
+      let balanced = in_old.balanced in
+      let b0 = balanced.rung in
+      let b1 = balanced.posted in
+      let b2 = balanced.held in
+      let b3 = balanced.lengths in
+      let b4 = balanced.room in
+      let within = in_old.rung in
+      record {
+        balanced = record {
+          rung = omega arith;
+          posted = balanced.posted;
+          room = omega arith;
+          held = rw (length-drop 1 r.held) (omega arith);
+          lengths = rw (length-drop 1 r.lengths) (omega arith);
+        };
+        rung = rw stays in_old.rung;
+        waiting = λ number from below.
+            let from' : completed ring old r ≤ number = rw (← stays) from in
+            let is_open : IsOpen (after_take r) number = (omega arith, below) in
+            let P : Held → Type 0 = λ x. IsAsPosted ring new number (address_of x.place) (length_for (after_take r) number) in
+            let Q : ℕ → Type 0 = λ l. IsAsPosted ring new number (address_of (place_for r number)) l in
+            subst P (sym (held-after r number is_open.0)) (subst Q (sym (length-after r number is_open.0)) (posted-same ring old new number _ _ (same number is_open) (in_old.waiting number from' below)));
+        named = λ number is_open.
+            let low = is_open.0 in
+            let P : Held → Type 0 = λ x. address_in ring new number ≡ address_of x.place in
+            subst P (sym (held-after r number is_open.0)) (address-same ring old new number (same number is_open) ∙ in_old.named number (omega arith, is_open.1));
+        lent = λ number is_open.
+            let P : Held → Type 0 = λ x. IsLent new x.place in
+            subst P (sym (held-after r number is_open.0)) (lent number is_open);
+        inside = λ number is_open.
+            let low = is_open.0 in
+            let P : ℕ → Type 0 = λ l. l ≤ BUFFER_BYTES in
+            subst P (sym (length-after r number is_open.0)) (in_old.inside number (omega arith, is_open.1));
+        told = λ number from below.
+            let below' : number < completed ring old r = rw (← stays) below in
+            rw (told-same ring old new number (same number (from, omega arith))) (in_old.told number (omega arith) below');
+        enabled = λ on. let configured = in_old.enabled on in record { base = configured.base; len = configured.len };
+        idle = λ off. stays ∙ in_old.idle off;
+      }

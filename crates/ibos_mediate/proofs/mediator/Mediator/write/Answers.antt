@@ -1,0 +1,34 @@
+use Rattle.std.proofs.Common.{sym, ◌∙◌, subst, ap}
+use Rattle.ibos_pool.specs.Names.{Names}
+use Rattle.ibos_mediate.specs.Mediated.{Mediated}
+use Rattle.ibos_mediate.specs.Relation.{IsAtDevice, IsInMemory, IsInPool}
+use Rattle.ibos_mediate.proofs.DeviceLemmas.{device-written}
+use Rattle.ibos_mediate.proofs.PoolLemmas.{pool-written}
+use Rattle.ibos_mediate.proofs.RuleLemmas.{may_from_rule}
+use Rattle.ibos_mediate.proofs.WriteLemmas.{may_write, memory-written}
+use Rattle.ibos_mediate.proofs.mediator.Mediator.write.Goals as goal
+
+pub write-requires : goal.write-requires
+write-requires g c =
+    let may = may_from_rule c.args.self.now c.in-Some.reg c.args.value (sym c.write_rule_of.ensures ∙ c.in_default-write_rule_of.is) in
+    may_write _ _ _ _ _ c.requires.memory c.requires.device may
+
+pub keep-requires : goal.keep-requires
+keep-requires g c = may_from_rule c.args.self.now c.in-Some.reg c.args.value (sym c.write_rule_of.ensures ∙ c.in_default-write_rule_of.is)
+
+pub returns-clause-memory : goal.returns-clause-memory
+returns-clause-memory g c =
+    let may = may_from_rule c.args.self.now c.in-Some.reg c.args.value (sym c.write_rule_of.ensures ∙ c.in_default-write_rule_of.is) in
+    let P : Mediated → Type 0 = λ m. IsInMemory m c.args.mem.now in
+    subst P (sym c.keep.ensures) (memory-written c.args.self.now c.args.mem.now c.in-Some.reg c.args.value c.requires.memory may)
+
+pub returns-clause-device : goal.returns-clause-device
+returns-clause-device g c =
+    let may = may_from_rule c.args.self.now c.in-Some.reg c.args.value (sym c.write_rule_of.ensures ∙ c.in_default-write_rule_of.is) in
+    let P : Mediated → Type 0 = λ m. IsAtDevice m c.args.mem.now (g.N.Nic.regs c.write.new.self) in
+    subst P (sym c.keep.ensures) (device-written c.args.self.now c.args.mem.now (g.N.Nic.regs c.args.nic.now) (g.N.Nic.regs c.write.new.self) c.in-Some.reg c.args.value c.requires.memory c.requires.device may c.write.ensures.registers)
+
+pub returns-clause-pool : goal.returns-clause-pool
+returns-clause-pool g c = λ names old.
+    let P : Mediated → Type 0 = λ m. IsInPool m names in
+    subst P (sym c.keep.ensures) (pool-written c.args.self.now names c.in-Some.reg c.args.value old)
