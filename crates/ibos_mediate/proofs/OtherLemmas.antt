@@ -168,3 +168,9 @@ loan-grown old new held taken place areas loan =
       taken = taken ∙ loan.taken;
       place = place ∙ loan.place;
     }
+
+pub memory-buffer : (behind : (areas : ℕ) (ring : Ring) (p : Place) → IsPlaceIn areas p → ring_base ring + RING_BYTES ≤ address_of p)
+    → (m : Mediated) (mem new : Memory) (p : Place) (bytes : List ℕ) → IsInMemory m mem → IsKept mem p → IsWritten mem new (address_of p) bytes → IsInMemory m new
+memory-buffer behind m mem new p bytes in_memory kept wrote =
+    memory-else m mem new in_memory (slots-buffer behind mem new p bytes kept wrote) (rw wrote.areas in_memory.areas)
+    (λ q. lent-same mem new q (wrote.lent q) wrote.areas)

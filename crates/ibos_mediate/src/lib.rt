@@ -12,7 +12,8 @@ mod ring_state;
 
 pub use counts::Counts;
 pub use laws::{
-    arrivals_keep_the_relation, reads_keep_the_relation, transmissions_keep_the_relation,
+    arrivals_keep_the_relation, other_changes_keep_the_relation, other_names_keep_the_relation,
+    reads_keep_the_relation, relation_begins, transmissions_keep_the_relation,
     writes_keep_the_relation,
 };
 pub use limits::{CAUSE_BITS, RECEIVE_CONTROL, TRANSMIT_COMMAND, TRANSMIT_CONTROL, TRANSMIT_FIXED};
