@@ -12,3 +12,4 @@ pub mod TakeLemmas
 pub mod PostedLemmas
 pub mod PutLemmas
 pub mod OtherLemmas
+pub mod CloseLemmas
