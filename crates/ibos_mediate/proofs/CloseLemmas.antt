@@ -1,8 +1,8 @@
 -- Buffers that rings hold are given back.
-use Rattle.std.proofs.Common.{◌≡◌, ◌≢◌, ℕ, zero, suc, ◌+◌, ◌-◌, ◌<◌, ◌≤◌, ◌⊎◌, ◌||◌, ◌==◌, List, [], ◌∷◌, ◌++◌, Bool, true, false, cond, length, get_or, refl, sym, ◌∙◌, ap, inl, inr, ⊎_elim, subst, arith}
+use Rattle.std.proofs.Common.{◌≡◌, ◌≢◌, ℕ, zero, suc, ◌+◌, ◌-◌, ◌<◌, ◌≤◌, ◌⊎◌, ◌||◌, ◌==◌, List, [], ◌∷◌, ◌++◌, Bool, true, false, cond, drop, length, get_or, refl, sym, ◌∙◌, ap, inl, inr, ⊎_elim, subst, arith}
 use Rattle.std.proofs.lemmas.Bool.Decides.{nat_tests}
 use Rattle.std.proofs.lemmas.Bool.{cases_eq, cases_lt}
-use Rattle.std.specs.Prelude.{IsFalse, IsTrue}
+use Rattle.std.specs.Prelude.{IsFalse, IsTrue, Option, None, Some, slice_get, unwrap_or}
 use Rattle.ibos_pool.specs.declared.name.Name.{Name}
 use Rattle.ibos_pool.specs.declared.name.Ring.{Ring}
 use Rattle.ibos_pool.specs.declared.name.Ring.TheVariants.{Receive, Transmit}
@@ -86,3 +86,35 @@ left-step all rest h first now next mem mem' mem'' left claimed marked = record 
 
 pub left-none : (all : List Held) (first now : Names) (mem mem' : Memory) → AreLeft all [] first now mem mem' → AreGiven all first now mem mem'
 left-none all first now mem mem' left = record { names = left.names; places = left.places; pool_areas = left.pool_areas; lent = left.lent; bytes = left.bytes; areas = left.areas }
+
+-- what holds while the buffers are given back
+pub record IsClosing (all rest : List Held) (first now : Names) (mem mem' : Memory) : Type 0 where
+  pub away : AreAway now mem' rest
+  pub left : AreLeft all rest first now mem mem'
+  pub others : (others : List Held) → AreAway first mem (all ++ others) → AreAway now mem' (rest ++ others)
+
+pub closing-begins : (held : List Held) (names : Names) (mem : Memory) → AreAway names mem held → IsClosing held held names names mem mem
+closing-begins held names mem away = record { away = away; left = left-all held names mem; others = λ others more. more }
+
+pub closing-step : (exact : (a b : Name) → same_name a b ≡ true → a ≡ b) (same : (p : Place) → same_place p p ≡ true)
+    → (all rest : List Held) (h : Held) (first now next : Names) (mem mem' mem'' : Memory) → IsClosing all (h ∷ rest) first now mem mem'
+    → IsClaimed now next h.name false → IsMarked mem' mem'' h.place false → IsClosing all rest first next mem mem''
+closing-step exact same all rest h first now next mem mem' mem'' closing claimed marked = record {
+  away = let away = closing.away in away-rest exact same now next mem' mem'' h rest away.0 away.2 claimed marked away.3;
+  left = left-step all rest h first now next mem mem' mem'' closing.left claimed marked;
+  others = λ others more. let away = closing.others others more in away-rest exact same now next mem' mem'' h (rest ++ others) away.0 away.2 claimed marked away.3;
+}
+
+-- a list whose first item is known
+front-is : (xs : List Held) (x : Held) → Some x ≡ slice_get xs 0 → xs ≡ x ∷ drop 1 xs
+front-is [] x e = absurd (let clash : Some x ≡ None = e in cc)
+front-is (y ∷ xs) x e = ap (λ (o : Option Held). unwrap_or o y ∷ xs) (sym e)
+
+-- the same for the list from which the first was taken
+pub closing-popped : (exact : (a b : Name) → same_name a b ≡ true → a ≡ b) (same : (p : Place) → same_place p p ≡ true)
+    → (all held rest : List Held) (h : Held) (first now next : Names) (mem mem' mem'' : Memory) → IsClosing all held first now mem mem'
+    → Some h ≡ slice_get held 0 → rest ≡ drop 1 held
+    → IsClaimed now next h.name false → IsMarked mem' mem'' h.place false → IsClosing all rest first next mem mem''
+closing-popped exact same all held rest h first now next mem mem' mem'' closing is_first is_rest claimed marked =
+    let whole : held ≡ h ∷ rest = front-is held h is_first ∙ ap (λ xs. h ∷ xs) (sym is_rest) in
+    closing-step exact same all rest h first now next mem mem' mem'' (subst (λ xs. IsClosing all xs first now mem mem') whole closing) claimed marked

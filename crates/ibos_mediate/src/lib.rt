@@ -2,6 +2,7 @@
 //! a ring holds, and what the memory, the pool and the card then are.
 #![tactic(auto)]
 
+mod closing;
 mod counts;
 mod descriptors;
 mod laws;
