@@ -13,3 +13,4 @@ pub mod PostedLemmas
 pub mod PutLemmas
 pub mod OtherLemmas
 pub mod CloseLemmas
+pub mod AwayLemmas
