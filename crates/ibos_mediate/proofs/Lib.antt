@@ -4,12 +4,13 @@ pub mod WriteLemmas
 pub mod DeviceLemmas
 pub mod StepLemmas
 pub mod RuleLemmas
-pub mod PoolLemmas
 pub mod ArriveLemmas
 pub mod TransmitLemmas
 pub mod PostLemmas
 pub mod TakeLemmas
 pub mod PostedLemmas
+pub mod TakenLemmas
+pub mod PoolLemmas
 pub mod PutLemmas
 pub mod OtherLemmas
 pub mod CloseLemmas

@@ -25,52 +25,52 @@ address-posted : (ring : Ring) (mem : Memory) (number address len : ℕ) → IsA
 address-posted Receive mem number address len posted = ap (λ (d : RxDesc). d.address) posted
 address-posted Transmit mem number address len posted = ap (λ (d : TxDesc). d.address) posted
 
+-- the descriptors that were there have the buffers that they had
+pub held-before : (r : RingView) (h : Held) (len : ℕ) → IsBalanced r → (number : ℕ) → IsOpen r number → held_for (with_post r h len) number ≡ held_for r number
+held-before r h len balanced number is_open =
+    let many = balanced.held in
+    let low = is_open.0 in
+    let high = is_open.1 in
+    get_or_append_left r.held (h ∷ []) no_buffer (number - r.taken) (omega arith)
+
+pub length-before : (r : RingView) (h : Held) (len : ℕ) → IsBalanced r → (number : ℕ) → IsOpen r number → length_for (with_post r h len) number ≡ length_for r number
+length-before r h len balanced number is_open =
+    let many = balanced.lengths in
+    let low = is_open.0 in
+    let high = is_open.1 in
+    get_or_append_left r.lengths (len ∷ []) 0 (number - r.taken) (omega arith)
+
+-- the new one has the new buffer
+pub held-new : (r : RingView) (h : Held) (len : ℕ) → IsBalanced r → held_for (with_post r h len) r.posted ≡ h
+held-new r h len balanced =
+    let many = balanced.held in
+    let order = balanced.rung in
+    let order' = balanced.posted in
+    let at : r.posted - r.taken ≡ length r.held + 0 = omega arith in
+    ap (λ i. slice_index_or (r.held ++ h ∷ []) i no_buffer) at ∙ get_or-append-add r.held (h ∷ []) 0 no_buffer
+
+pub length-new : (r : RingView) (h : Held) (len : ℕ) → IsBalanced r → length_for (with_post r h len) r.posted ≡ len
+length-new r h len balanced =
+    let many = balanced.lengths in
+    let order = balanced.rung in
+    let order' = balanced.posted in
+    let at : r.posted - r.taken ≡ length r.lengths + 0 = omega arith in
+    ap (λ i. slice_index (r.lengths ++ len ∷ []) i) at ∙ get_or-append-add r.lengths (len ∷ []) 0 0
+
 module _ (ring : Ring) (old new : Memory) (r : RingView) (h : Held) (len : ℕ) (in_old : IsRingInMemory ring old r)
     (room : r.posted < r.taken + (ring_size - 1))
     (same : (number : ℕ) → IsOpen r number → descriptor_of ring new number ≡ descriptor_of ring old number)
     (posted : IsAsPosted ring new r.posted (address_of h.place) len) where
-  -- the descriptors that were there have the buffers that they had
-  pub held-before : (number : ℕ) → IsOpen r number → held_for (with_post r h len) number ≡ held_for r number
-  held-before number is_open =
-      let many = in_old.balanced.held in
-      let low = is_open.0 in
-      let high = is_open.1 in
-      get_or_append_left r.held (h ∷ []) no_buffer (number - r.taken) (omega arith)
-
-  pub length-before : (number : ℕ) → IsOpen r number → length_for (with_post r h len) number ≡ length_for r number
-  length-before number is_open =
-      let many = in_old.balanced.lengths in
-      let low = is_open.0 in
-      let high = is_open.1 in
-      get_or_append_left r.lengths (len ∷ []) 0 (number - r.taken) (omega arith)
-
-  -- the new one has the new buffer
-  pub held-new : held_for (with_post r h len) r.posted ≡ h
-  held-new =
-      let many = in_old.balanced.held in
-      let order = in_old.balanced.rung in
-      let order' = in_old.balanced.posted in
-      let at : r.posted - r.taken ≡ length r.held + 0 = omega arith in
-      ap (λ i. slice_index_or (r.held ++ h ∷ []) i no_buffer) at ∙ get_or-append-add r.held (h ∷ []) 0 no_buffer
-
-  pub length-new : length_for (with_post r h len) r.posted ≡ len
-  length-new =
-      let many = in_old.balanced.lengths in
-      let order = in_old.balanced.rung in
-      let order' = in_old.balanced.posted in
-      let at : r.posted - r.taken ≡ length r.lengths + 0 = omega arith in
-      ap (λ i. slice_index (r.lengths ++ len ∷ []) i) at ∙ get_or-append-add r.lengths (len ∷ []) 0 0
-
   waiting-new : IsAsPosted ring new r.posted (address_of (place_for (with_post r h len) r.posted)) (length_for (with_post r h len) r.posted)
   waiting-new =
       let P : Held → Type 0 = λ x. IsAsPosted ring new r.posted (address_of x.place) (length_for (with_post r h len) r.posted) in
       let Q : ℕ → Type 0 = λ l. IsAsPosted ring new r.posted (address_of h.place) l in
-      subst P (sym held-new) (subst Q (sym length-new) posted)
+      subst P (sym (held-new r h len in_old.balanced)) (subst Q (sym (length-new r h len in_old.balanced)) posted)
 
   named-new : address_in ring new r.posted ≡ address_of (place_for (with_post r h len) r.posted)
   named-new =
       let P : Held → Type 0 = λ x. address_in ring new r.posted ≡ address_of x.place in
-      subst P (sym held-new) (address-posted ring new r.posted _ _ posted)
+      subst P (sym (held-new r h len in_old.balanced)) (address-posted ring new r.posted _ _ posted)
 
   -- the device is done with the same descriptors
   pub completed-posted : completed ring new (with_post r h len) ≡ completed ring old r
@@ -118,7 +118,7 @@ module _ (ring : Ring) (old new : Memory) (r : RingView) (h : Held) (len : ℕ) 
             let is_open : IsOpen r number = (omega arith, omega arith) in
             let P : Held → Type 0 = λ x. IsAsPosted ring new number (address_of x.place) (length_for (with_post r h len) number) in
             let Q : ℕ → Type 0 = λ l. IsAsPosted ring new number (address_of (place_for r number)) l in
-            subst P (sym (held-before number is_open)) (subst Q (sym (length-before number is_open)) (posted-same ring old new number _ _ (same number is_open) (in_old.waiting number from' is_open.1))))
+            subst P (sym (held-before r h len in_old.balanced number is_open)) (subst Q (sym (length-before r h len in_old.balanced number is_open)) (posted-same ring old new number _ _ (same number is_open) (in_old.waiting number from' is_open.1))))
             (cases_eq number r.posted);
         named = λ number is_open. ⊎_elim
             (λ (this : number ≡ r.posted).
@@ -127,27 +127,27 @@ module _ (ring : Ring) (old new : Memory) (r : RingView) (h : Held) (len : ℕ) 
             (λ (other : number ≢ r.posted).
             let was = before number is_open other in
             let P : Held → Type 0 = λ x. address_in ring new number ≡ address_of x.place in
-            subst P (sym (held-before number was)) (address-same ring old new number (same number was) ∙ in_old.named number was))
+            subst P (sym (held-before r h len in_old.balanced number was)) (address-same ring old new number (same number was) ∙ in_old.named number was))
             (cases_eq number r.posted);
         lent = λ number is_open. ⊎_elim
             (λ (this : number ≡ r.posted).
             let P : ℕ → Type 0 = λ n. IsLent new (place_for (with_post r h len) n) in
             let Q : Held → Type 0 = λ x. IsLent new x.place in
-            subst P (sym this) (subst Q (sym held-new) lent_new))
-            (λ (other : number ≢ r.posted).
+            subst P (sym this) (subst Q (sym (held-new r h len in_old.balanced)) lent_new))
+            (λ (other : number ≢ r.posted). 
             let was = before number is_open other in
             let P : Held → Type 0 = λ x. IsLent new x.place in
-            subst P (sym (held-before number was)) (lent number was))
+            subst P (sym (held-before r h len in_old.balanced number was)) (lent number was))
             (cases_eq number r.posted);
         inside = λ number is_open. ⊎_elim
             (λ (this : number ≡ r.posted).
             let P : ℕ → Type 0 = λ n. length_for (with_post r h len) n ≤ BUFFER_BYTES in
             let Q : ℕ → Type 0 = λ n. n ≤ BUFFER_BYTES in
-            subst P (sym this) (subst Q (sym length-new) small))
-            (λ (other : number ≢ r.posted).
+            subst P (sym this) (subst Q (sym (length-new r h len in_old.balanced)) small))
+            (λ (other : number ≢ r.posted). 
             let was = before number is_open other in
             let P : ℕ → Type 0 = λ l. l ≤ BUFFER_BYTES in
-            subst P (sym (length-before number was)) (in_old.inside number was))
+            subst P (sym (length-before r h len in_old.balanced number was)) (in_old.inside number was))
             (cases_eq number r.posted);
         told = λ number from below.
             let below' : number < completed ring old r = rw (← stays) below in

@@ -26,7 +26,7 @@ own-posted : (ring : Ring) (m : Mediated) (h : Held) (len : ℕ) → ring_of (po
 own-posted Receive m h len = refl
 own-posted Transmit m h len = refl
 
-in_ring : (one : Ring) (m : Mediated) (mem : Memory) → IsInMemory m mem → IsRingInMemory one mem (ring_of m one)
+pub in_ring : (one : Ring) (m : Mediated) (mem : Memory) → IsInMemory m mem → IsRingInMemory one mem (ring_of m one)
 in_ring Receive m mem both = both.receive
 in_ring Transmit m mem both = both.transmit
 
@@ -83,17 +83,14 @@ module _ (ring : Ring) (old new : Memory) (m : Mediated) (h : Held) (len : ℕ) 
 
   own-origin : (j : ℕ) → IsOpen (with_post (ring_of m ring) h len) j → Origin ring j (with_post (ring_of m ring) h len)
   own-origin j is_open = ⊎_elim
-      (λ (this : j ≡ (ring_of m ring).posted). inl (
-        refl,
-        this,
-        let P : ℕ → Type 0 = λ n. place_for (with_post (ring_of m ring) h len) n ≡ h.place in
-            subst P (sym this) (ap (λ (x : Held). x.place) (held-new ring old new (ring_of m ring) h len (in_ring ring m old in_old) room same-own posted)),
-      ))
+      (λ (this : j ≡ (ring_of m ring).posted). inl (refl, this,
+          let P : ℕ → Type 0 = λ n. place_for (with_post (ring_of m ring) h len) n ≡ h.place in
+          subst P (sym this) (ap (λ (x : Held). x.place) (held-new (ring_of m ring) h len (in_ring ring m old in_old).balanced))))
       (λ (other : j ≢ (ring_of m ring).posted).
-      let low = is_open.0 in
-      let high = is_open.1 in
-      let was : IsOpen (ring_of m ring) j = (low, omega arith) in
-      inr (was, ap (λ (x : Held). x.place) (held-before ring old new (ring_of m ring) h len (in_ring ring m old in_old) room same-own posted j was)))
+          let low = is_open.0 in
+          let high = is_open.1 in
+          let was : IsOpen (ring_of m ring) j = (low, omega arith) in
+          inr (was, ap (λ (x : Held). x.place) (held-before (ring_of m ring) h len (in_ring ring m old in_old).balanced j was)))
       (cases_eq j (ring_of m ring).posted)
 
   -- a place that was lent is not that of the new buffer
@@ -110,3 +107,61 @@ module _ (ring : Ring) (old new : Memory) (m : Mediated) (h : Held) (len : ℕ) 
   apart-from one other j k r s (inl a) (inr b) same = absurd (not-new other k b.0 (sym b.1 ∙ sym same ∙ a.2))
   apart-from one other j k r s (inr a) (inl b) same = absurd (not-new one j a.0 (sym a.1 ∙ same ∙ b.2))
   apart-from one other j k r s (inr a) (inr b) same = in_old.apart one other j k a.0 b.0 (sym a.1 ∙ same ∙ b.1)
+
+receive-differs : Transmit ≢ Receive
+receive-differs same = cc
+
+transmit-differs : Receive ≢ Transmit
+transmit-differs same = cc
+
+module _ (old new : Memory) (m : Mediated) (h : Held) (bytes : List ℕ) (size : length bytes ≡ DESCRIPTOR_BYTES)
+    (in_old : IsInMemory m old) (room : m.receive.posted < m.receive.taken + (ring_size - 1))
+    (change : IsPosted old new (descriptor_at Receive m.receive.posted) bytes h.place)
+    (posted : IsAsPosted Receive new m.receive.posted (address_of h.place) 0) (kept : IsKept old h.place) where
+  pub receive-in_memory : IsLent new h.place → IsInMemory (record m { receive = with_post m.receive h 0 }) new
+  receive-in_memory lent = record {
+    areas = rw change.areas in_old.areas;
+    receive = own Receive old new m h 0 bytes size in_old room change posted kept lent (omega arith);
+    transmit = other Receive old new m h 0 bytes size in_old room change posted kept Transmit receive-differs;
+    apart = λ one other j k open_j open_k same. apart-from Receive old new m h 0 bytes size in_old room change posted kept one other j k (ring_of (record m { receive = with_post m.receive h 0 }) one) (ring_of (record m { receive = with_post m.receive h 0 }) other) (origin one j open_j) (origin other k open_k) same;
+  }
+    where
+      origin : (one : Ring) (j : ℕ) → IsOpen (ring_of (record m { receive = with_post m.receive h 0 }) one) j
+          → Origin Receive old new m h 0 bytes size in_old room change posted kept one j (ring_of (record m { receive = with_post m.receive h 0 }) one)
+      origin Receive j is_open = own-origin Receive old new m h 0 bytes size in_old room change posted kept j is_open
+      origin Transmit j is_open = inr (is_open, refl)
+
+  pub receive-at_device : (regs : Registers) → IsAtDevice m old regs → IsAtDevice (record m { receive = with_post m.receive h 0 }) new regs
+  receive-at_device regs device =
+      let receive = device.receive in
+      let transmit = device.transmit in
+      record {
+        receive = record { head = receive.head ∙ ap slot_of (sym (own-completed Receive old new m h 0 bytes size in_old room change posted kept)); tail = receive.tail; base = receive.base; high = receive.high; len = receive.len; control = receive.control };
+        transmit = record { head = transmit.head ∙ ap slot_of (sym (other-completed Receive old new m h 0 bytes size in_old room change posted kept Transmit receive-differs)); tail = transmit.tail; base = transmit.base; high = transmit.high; len = transmit.len; control = transmit.control };
+      }
+
+module _ (old new : Memory) (m : Mediated) (h : Held) (len : ℕ) (bytes : List ℕ) (size : length bytes ≡ DESCRIPTOR_BYTES)
+    (in_old : IsInMemory m old) (room : m.transmit.posted < m.transmit.taken + (ring_size - 1))
+    (change : IsPosted old new (descriptor_at Transmit m.transmit.posted) bytes h.place)
+    (posted : IsAsPosted Transmit new m.transmit.posted (address_of h.place) len) (kept : IsKept old h.place) where
+  pub transmit-in_memory : IsLent new h.place → len ≤ BUFFER_BYTES → IsInMemory (record m { transmit = with_post m.transmit h len }) new
+  transmit-in_memory lent small = record {
+    areas = rw change.areas in_old.areas;
+    receive = other Transmit old new m h len bytes size in_old room change posted kept Receive transmit-differs;
+    transmit = own Transmit old new m h len bytes size in_old room change posted kept lent small;
+    apart = λ one other j k open_j open_k same. apart-from Transmit old new m h len bytes size in_old room change posted kept one other j k (ring_of (record m { transmit = with_post m.transmit h len }) one) (ring_of (record m { transmit = with_post m.transmit h len }) other) (origin one j open_j) (origin other k open_k) same;
+  }
+    where
+      origin : (one : Ring) (j : ℕ) → IsOpen (ring_of (record m { transmit = with_post m.transmit h len }) one) j
+          → Origin Transmit old new m h len bytes size in_old room change posted kept one j (ring_of (record m { transmit = with_post m.transmit h len }) one)
+      origin Receive j is_open = inr (is_open, refl)
+      origin Transmit j is_open = own-origin Transmit old new m h len bytes size in_old room change posted kept j is_open
+
+  pub transmit-at_device : (regs : Registers) → IsAtDevice m old regs → IsAtDevice (record m { transmit = with_post m.transmit h len }) new regs
+  transmit-at_device regs device =
+      let receive = device.receive in
+      let transmit = device.transmit in
+      record {
+        receive = record { head = receive.head ∙ ap slot_of (sym (other-completed Transmit old new m h len bytes size in_old room change posted kept Receive transmit-differs)); tail = receive.tail; base = receive.base; high = receive.high; len = receive.len; control = receive.control };
+        transmit = record { head = transmit.head ∙ ap slot_of (sym (own-completed Transmit old new m h len bytes size in_old room change posted kept)); tail = transmit.tail; base = transmit.base; high = transmit.high; len = transmit.len; control = transmit.control };
+      }

@@ -2,15 +2,20 @@
 use Rattle.std.proofs.Common.{◌≡◌, ◌≢◌, ℕ, zero, suc, ◌+◌, ◌-◌, ◌*◌, ◌%◌, ◌<◌, ◌≤◌, ◌⊎◌, ◌==◌, List, [], ◌∷◌, Bool, true, false, length, drop, refl, sym, ◌∙◌, ap, inl, inr, ⊎_elim, subst, arith, length-drop}
 use Rattle.std.proofs.lemmas.Bool.{cases_eq, cases_lt}
 use Rattle.std.proofs.lemmas.List.{get_or-drop}
-use Rattle.std.specs.Prelude.{IsFalse, IsTrue, slice_index, slice_index_or}
+use Rattle.std.specs.Prelude.{IsFalse, IsTrue, bit_and, slice_index, slice_index_or}
 use Rattle.ibos_pool.specs.declared.name.Ring.{Ring}
+use Rattle.ibos_pool.specs.declared.name.Ring.TheVariants.{Receive, Transmit}
 use Rattle.ibos_pool.specs.declared.limits.TheConstants.{BUFFER_BYTES, DESCRIPTOR_BYTES}
 use Rattle.ibos_pool.specs.Memory.{IsLent, Memory}
 use Rattle.ibos_pool.specs.Names.{Held}
-use Rattle.ibos_pool.specs.Places.{address_of}
+use Rattle.ibos_pool.specs.Places.{address_of, slot_address}
 use Rattle.ibos_nic.specs.Registers.{ring_size}
+use Rattle.ibos_nic.specs.declared.limits.TheConstants.{DONE}
+use Rattle.ibos_nic.specs.declared.descriptor.RxDesc.{RxDesc}
+use Rattle.ibos_nic.specs.declared.descriptor.TxDesc.{TxDesc}
+use Rattle.ibos_nic.specs.Device.{rx_at, tx_at}
 use Rattle.ibos_mediate.specs.Mediated.{IsBalanced, RingView}
-use Rattle.ibos_mediate.specs.Relation.{IsAsPosted, IsOpen, IsRingInMemory, address_in, completed, descriptor_at, held_for, is_done, length_for, no_buffer, place_for}
+use Rattle.ibos_mediate.specs.Relation.{IsAsPosted, IsOpen, IsRingInMemory, address_in, completed, descriptor_at, held_for, is_done, length_for, no_buffer, place_for, slot_of}
 use Rattle.ibos_mediate.specs.Rules.{after_take}
 use Rattle.ibos_mediate.proofs.RingLemmas.{completed-before, completed-high, completed-is, completed-low, completed-undone}
 use Rattle.ibos_mediate.proofs.StepLemmas.{address-same, descriptor_of, done-same, posted-same, told-same}
@@ -25,6 +30,37 @@ pub length-after : (r : RingView) (number : ℕ) → r.taken + 1 ≤ number → 
 length-after r number later =
     let at : 1 + (number - (r.taken + 1)) ≡ number - r.taken = omega arith in
     get_or-drop 1 r.lengths (number - (r.taken + 1)) 0 ∙ ap (λ i. slice_index r.lengths i) at
+
+-- how far the device is, by the oldest descriptor that was not taken back
+pub completed-empty : (ring : Ring) (mem : Memory) (r : RingView) → r.posted ≡ r.taken → completed ring mem r ≡ r.taken
+completed-empty ring mem r empty =
+    let low = completed-low ring mem r in
+    let high = completed-high ring mem r (omega arith) in
+    omega arith
+
+pub completed-more : (ring : Ring) (mem : Memory) (r : RingView) → r.taken < r.posted → is_done ring mem r.taken ≡ true → r.taken < completed ring mem r
+completed-more ring mem r some done =
+    let low = completed-low ring mem r in
+    ⊎_elim
+    (λ (more : r.taken < completed ring mem r). more)
+    (λ (none : completed ring mem r ≤ r.taken).
+    let this : completed ring mem r ≡ r.taken = omega arith in
+    let undone = completed-undone ring mem r (omega arith) in
+    absurd (let clash : false ≡ true = sym undone ∙ ap (is_done ring mem) this ∙ done in cc))
+    (cases_lt r.taken (completed ring mem r))
+
+pub completed-none : (ring : Ring) (mem : Memory) (r : RingView) → r.taken < r.posted → is_done ring mem r.taken ≡ false → completed ring mem r ≡ r.taken
+completed-none ring mem r some undone =
+    completed-is ring mem r r.taken (omega arith) (omega arith) (λ k from below. absurd (omega arith)) (inr undone)
+
+-- DD of the oldest descriptor, as it is read
+pub receive-done : (mem : Memory) (r : RingView) (slot : ℕ) (d : RxDesc) → slot ≡ slot_of r.taken → d ≡ rx_at mem (slot_address Receive slot)
+    → (bit_and d.status DONE == DONE) ≡ is_done Receive mem r.taken
+receive-done mem r slot d at is = ap (λ (x : RxDesc). bit_and x.status DONE == DONE) (is ∙ ap (λ s. rx_at mem (slot_address Receive s)) at)
+
+pub transmit-done : (mem : Memory) (r : RingView) (slot : ℕ) (d : TxDesc) → slot ≡ slot_of r.taken → d ≡ tx_at mem (slot_address Transmit slot)
+    → (bit_and d.sta DONE == DONE) ≡ is_done Transmit mem r.taken
+transmit-done mem r slot d at is = ap (λ (x : TxDesc). bit_and x.sta DONE == DONE) (is ∙ ap (λ s. tx_at mem (slot_address Transmit s)) at)
 
 module _ (ring : Ring) (old new : Memory) (r : RingView) (in_old : IsRingInMemory ring old r) (more : r.taken < completed ring old r)
     (same : (number : ℕ) → IsOpen (after_take r) number → descriptor_of ring new number ≡ descriptor_of ring old number) where

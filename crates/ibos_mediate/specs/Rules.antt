@@ -126,16 +126,17 @@ slot_rule ring r slot =
 abbrev pub receive_name : ℕ → Name
 receive_name index = record { area = 0; index = index }
 
--- a descriptor of the ring has the buffer of that name
+-- one of the buffers has that name
 abbrev pub is_in_ring : List Held → Name → Bool
-is_in_ring held name = list_any (λ h. same_name h.name name) held
+is_in_ring held name = list_any (λ h. same_name name h.name) held
 
--- the handle is the newest of a receive buffer that is not in the ring
+-- the handle is of a receive buffer, and the newest one of it
+abbrev pub is_newest : Mediated → Handle → Bool
+is_newest m handle = nat_lt handle.name RECEIVE_BUFFERS && handle.turn == slice_index m.turns handle.name
+
+-- the handle may be posted: its buffer is not in the ring
 abbrev pub is_free : Mediated → Handle → Bool
-is_free m handle =
-    nat_lt handle.name RECEIVE_BUFFERS
-    && not (is_in_ring m.receive.held (receive_name handle.name))
-    && handle.turn == slice_index m.turns handle.name
+is_free m handle = is_newest m handle && not (is_in_ring m.receive.held (receive_name handle.name))
 
 -- the first rule that a post of a receive buffer breaks
 abbrev pub receive_rule : Mediated → ℕ → Handle → Option Rule
@@ -152,3 +153,7 @@ after_take r = record r { taken = r.taken + 1; held = drop 1 r.held; lengths = d
 -- the turns after the buffer of that index was taken back
 abbrev pub with_turn : List ℕ → ℕ → List ℕ
 with_turn turns index = slice_set turns index (slice_index turns index + 1)
+
+-- the mediator after the oldest receive descriptor was taken back, whose buffer has that index
+abbrev pub after_receive : Mediated → ℕ → Mediated
+after_receive m index = record { receive = after_take m.receive; transmit = m.transmit; turns = with_turn m.turns index }

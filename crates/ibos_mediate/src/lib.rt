@@ -8,8 +8,10 @@ mod descriptors;
 mod laws;
 mod limits;
 mod mediator;
+mod posts;
 mod registers;
 mod ring_state;
+mod takes;
 
 pub use counts::Counts;
 pub use laws::{

@@ -23,9 +23,9 @@ use std::marker::Model;
 /// What stands between the driver and the device. It has the counts of both rings, the buffers that they hold, and how
 /// often each receive buffer was taken back. It can't be dropped.
 pub struct Mediator {
-    receive: RingState,
-    transmit: RingState,
-    turns: [u32; RECEIVE_BUFFERS as usize],
+    pub(crate) receive: RingState,
+    pub(crate) transmit: RingState,
+    pub(crate) turns: [u32; RECEIVE_BUFFERS as usize],
 }
 
 impl Model for Mediator {

@@ -1,7 +1,8 @@
 //! What is kept of one ring.
-ghost use Rattle.std.specs.Prelude.{◌≡◌, ◌+◌, ◌-◌, ◌<◌, ◌≤◌, ◌^◌, [], length, slice_get, IfOk, Some};
+ghost use Rattle.std.specs.Prelude.{◌≡◌, ◌+◌, ◌-◌, ◌<◌, ◌≤◌, ◌^◌, ◌↔◌, [], length, IfOk, IfSome, IsNone};
 ghost use Rattle.ibos_nic.specs.Registers.{is_enabled, ring_size};
 ghost use Rattle.ibos_mediate.specs.Mediated.{IsBalanced};
+ghost use Rattle.ibos_mediate.specs.Relation.{held_for, slot_of};
 ghost use Rattle.ibos_mediate.specs.Rules.{after_take, is_configured, rung_count, slot_rule, with_post};
 
 use crate::counts::Counts;
@@ -88,6 +89,7 @@ impl RingState {
         ensures rung { result.rung ≡ self.now.rung }
         ensures taken { result.taken ≡ self.now.taken }
         ensures balanced { IsBalanced self.now }
+        ensures posts { self.now.posted ≤ 2 ^ 31 }
     {
         Counts {
             posted: self.posted,
@@ -100,6 +102,33 @@ impl RingState {
         ensures { result ≡ self.now.posted }
     {
         self.posted
+    }
+
+    pub(crate) fn taken(&self) -> u32
+        ensures { result ≡ self.now.taken }
+    {
+        self.taken
+    }
+
+    /// The slot of the next post.
+    pub(crate) fn next_slot(&self) -> u32
+        ensures slot { result ≡ slot_of self.now.posted }
+        ensures within { result < ring_size }
+    {
+        self.posted % RING_SLOTS
+    }
+
+    /// The slot of the oldest descriptor that was not taken back, where there is one.
+    pub(crate) fn oldest_slot(&self) -> Option<u32>
+        ensures none { IsNone result ↔ (self.now.posted ≡ self.now.taken) }
+        ensures slot { IfSome result (λ slot. slot ≡ slot_of self.now.taken) }
+        ensures within { IfSome result (λ slot. slot < ring_size) }
+        ensures some { IfSome result (λ _. self.now.taken < self.now.posted) }
+    {
+        if self.posted == self.taken {
+            return None;
+        }
+        Some(self.taken % RING_SLOTS)
     }
 
     pub(crate) fn is_enabled(&self) -> bool
@@ -184,7 +213,7 @@ impl RingState {
     /// Takes the oldest buffer back.
     pub(crate) fn take(&mut self) -> Away
         requires { self.old.taken < self.old.rung }
-        ensures value { Some result ≡ slice_get self.old.held 0 }
+        ensures value { result ≡ held_for self.old self.old.taken }
         ensures after { self.new ≡ after_take self.old }
     {
         self.taken += 1;
