@@ -10,7 +10,8 @@ use Rattle.ibos_pool.specs.declared.place.Place.{Place}
 use Rattle.ibos_pool.specs.Memory.{IsLent, Memory, bytes_at, is_lent_at}
 use Rattle.ibos_pool.specs.Names.{Held, IsLoanOf, Names, is_taken, place_of, same_name}
 use Rattle.ibos_pool.specs.Places.{same_place}
-use Rattle.ibos_mediate.specs.Closing.{AreAway, AreGiven, AreOutbound, has_name, has_place}
+use Rattle.ibos_mediate.specs.Closing.{AreAway, AreGiven, AreOutbound, has_place}
+use Rattle.ibos_mediate.specs.Rules.{is_in_ring}
 use Rattle.ibos_mediate.specs.Mediated.{IsBalanced, Mediated, RingView}
 use Rattle.ibos_mediate.specs.Relation.{AreApart, IsInMemory, IsInPool, IsOpen, held_for, no_buffer, place_for, ring_of}
 
@@ -140,10 +141,6 @@ or_assoc : (a b c : Bool) → (a || (b || c)) ≡ ((a || b) || c)
 or_assoc true b c = refl
 or_assoc false b c = refl
 
-has_name-append : (xs ys : List Held) (name : Name) → has_name (xs ++ ys) name ≡ (has_name xs name || has_name ys name)
-has_name-append [] ys name = refl
-has_name-append (x ∷ xs) ys name = ap (λ t. same_name name x.name || t) (has_name-append xs ys name) ∙ or_assoc (same_name name x.name) (has_name xs name) (has_name ys name)
-
 has_place-append : (xs ys : List Held) (p : Place) → has_place (xs ++ ys) p ≡ (has_place xs p || has_place ys p)
 has_place-append [] ys p = refl
 has_place-append (x ∷ xs) ys p = ap (λ t. same_place p x.place || t) (has_place-append xs ys p) ∙ or_assoc (same_place p x.place) (has_place xs p) (has_place ys p)
@@ -155,27 +152,7 @@ first_false false b e = refl
 not_placed-front : (p : Place) (xs ys : List Held) → IsFalse (has_place (xs ++ ys) p) → IsFalse (has_place xs p)
 not_placed-front p xs ys none = first_false (has_place xs p) (has_place ys p) (sym (has_place-append xs ys p) ∙ none)
 
-both-tests : (one two old : Bool) → cond two false (cond one false old) ≡ cond (one || two) false old
-both-tests true true old = refl
-both-tests true false old = refl
-both-tests false true old = refl
-both-tests false false old = refl
-
 -- the first part of a list that is away
 pub away-front : (names : Names) (mem : Memory) (xs ys : List Held) → AreAway names mem (xs ++ ys) → AreAway names mem xs
 away-front names mem [] ys away = tt
 away-front names mem (x ∷ xs) ys away = (away.0, away.1, not_placed-front x.place xs ys away.2, away-front names mem xs ys away.3)
-
--- one list is given back and then another
-pub given-both : (xs ys : List Held) (first mid last : Names) (mem mem' mem'' : Memory) → AreGiven xs first mid mem mem' → AreGiven ys mid last mem' mem''
-    → AreGiven (xs ++ ys) first last mem mem''
-given-both xs ys first mid last mem mem' mem'' one two = record {
-  names = λ name. two.names name ∙ ap (λ t. cond (has_name ys name) false t) (one.names name) ∙ both-tests (has_name xs name) (has_name ys name) (is_taken first name)
-      ∙ ap (λ t. cond t false (is_taken first name)) (sym (has_name-append xs ys name));
-  places = λ name. two.places name ∙ one.places name;
-  pool_areas = two.pool_areas ∙ one.pool_areas;
-  lent = λ p. two.lent p ∙ ap (λ t. cond (has_place ys p) false t) (one.lent p) ∙ both-tests (has_place xs p) (has_place ys p) (is_lent_at mem p)
-      ∙ ap (λ t. cond t false (is_lent_at mem p)) (sym (has_place-append xs ys p));
-  bytes = λ from n. two.bytes from n ∙ one.bytes from n;
-  areas = two.areas ∙ one.areas;
-}

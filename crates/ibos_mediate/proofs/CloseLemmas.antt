@@ -10,7 +10,8 @@ use Rattle.ibos_pool.specs.declared.place.Place.{Place}
 use Rattle.ibos_pool.specs.Memory.{IsLent, IsMarked, Memory, bytes_at, is_lent_at}
 use Rattle.ibos_pool.specs.Names.{Held, IsClaimed, IsLoanOf, Names, is_taken, place_of, same_name}
 use Rattle.ibos_pool.specs.Places.{same_place}
-use Rattle.ibos_mediate.specs.Closing.{AreAway, AreGiven, AreOutbound, has_name, has_place}
+use Rattle.ibos_mediate.specs.Closing.{AreAway, AreGiven, AreOutbound, has_place}
+use Rattle.ibos_mediate.specs.Rules.{is_in_ring}
 
 -- the tests of names and places go both ways
 place-turned : (p q : Place) → same_place p q ≡ false → same_place q p ≡ false
@@ -58,12 +59,9 @@ given-test true false old = refl
 given-test false true old = refl
 given-test false false old = refl
 
-pub given-none : (names : Names) (mem : Memory) → AreGiven [] names names mem mem
-given-none names mem = record { names = λ name. refl; places = λ name. refl; pool_areas = refl; lent = λ p. refl; bytes = λ from n. refl; areas = refl }
-
 -- What giving back the rest makes of the pool and the memory is what giving back all made of the first.
 pub record AreLeft (all rest : List Held) (first now : Names) (mem mem' : Memory) : Type 0 where
-  pub names : (name : Name) → cond (has_name rest name) false (is_taken now name) ≡ cond (has_name all name) false (is_taken first name)
+  pub names : (name : Name) → cond (is_in_ring rest name) false (is_taken now name) ≡ cond (is_in_ring all name) false (is_taken first name)
   pub places : (name : Name) → place_of now name ≡ place_of first name
   pub pool_areas : length now ≡ length first
   pub lent : (p : Place) → cond (has_place rest p) false (is_lent_at mem' p) ≡ cond (has_place all p) false (is_lent_at mem p)
@@ -76,7 +74,7 @@ left-all held names mem = record { names = λ name. refl; places = λ name. refl
 pub left-step : (all rest : List Held) (h : Held) (first now next : Names) (mem mem' mem'' : Memory) → AreLeft all (h ∷ rest) first now mem mem'
     → IsClaimed now next h.name false → IsMarked mem' mem'' h.place false → AreLeft all rest first next mem mem''
 left-step all rest h first now next mem mem' mem'' left claimed marked = record {
-  names = λ name. ap (λ t. cond (has_name rest name) false t) (claimed.taken_names name) ∙ given-test (same_name name h.name) (has_name rest name) (is_taken now name) ∙ left.names name;
+  names = λ name. ap (λ t. cond (is_in_ring rest name) false t) (claimed.taken_names name) ∙ given-test (same_name name h.name) (is_in_ring rest name) (is_taken now name) ∙ left.names name;
   places = λ name. claimed.places name ∙ left.places name;
   pool_areas = claimed.areas ∙ left.pool_areas;
   lent = λ p. ap (λ t. cond (has_place rest p) false t) (marked.lent p) ∙ given-test (same_place p h.place) (has_place rest p) (is_lent_at mem' p) ∙ left.lent p;

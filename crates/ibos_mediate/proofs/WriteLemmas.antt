@@ -190,3 +190,15 @@ memory-written m mem Tdbal value old may = in_memory-transmit m mem _ old (ring-
 memory-written m mem Tdlen value old may = in_memory-transmit m mem _ old (ring-len Transmit mem m.transmit value may.1 old.transmit) (record { taken = refl; posted = refl; held = refl })
 memory-written m mem Tdt value old may = in_memory-transmit m mem _ old (ring-rung Transmit mem m.transmit value may.2 old.transmit) (record { taken = refl; posted = refl; held = refl })
 memory-written m mem other value old may = old
+
+-- no buffer changes its ring by a write
+pub pool-written : (m : Mediated) (names : Names) (reg : Reg) (value : ℕ) → IsInPool m names → IsInPool (after_writing reg value m) names
+pool-written m names Rctl value old = record { loans = old.loans; area = old.area; apart = old.apart }
+pool-written m names Rdbal value old = record { loans = old.loans; area = old.area; apart = old.apart }
+pool-written m names Rdlen value old = record { loans = old.loans; area = old.area; apart = old.apart }
+pool-written m names Rdt value old = record { loans = old.loans; area = old.area; apart = old.apart }
+pool-written m names Tctl value old = record { loans = old.loans; area = old.area; apart = old.apart }
+pool-written m names Tdbal value old = record { loans = old.loans; area = old.area; apart = old.apart }
+pool-written m names Tdlen value old = record { loans = old.loans; area = old.area; apart = old.apart }
+pool-written m names Tdt value old = record { loans = old.loans; area = old.area; apart = old.apart }
+pool-written m names other value old = old

@@ -4,14 +4,11 @@ use Rattle.std.specs.List.{list_any}
 use Rattle.ibos_pool.specs.declared.name.Name.{Name}
 use Rattle.ibos_pool.specs.declared.place.Place.{Place}
 use Rattle.ibos_pool.specs.Memory.{IsLent, Memory, bytes_at, is_lent_at}
-use Rattle.ibos_pool.specs.Names.{Held, IsLoanOf, Names, is_taken, place_of, same_name}
+use Rattle.ibos_pool.specs.Names.{Held, IsLoanOf, Names, is_taken, place_of}
 use Rattle.ibos_pool.specs.Places.{same_place}
 use Rattle.ibos_mediate.specs.Mediated.{Mediated}
 use Rattle.ibos_mediate.specs.Relation.{IsOpen, held_for}
-
--- one of the buffers has that name
-abbrev pub has_name : List Held → Name → Bool
-has_name held name = list_any (λ h. same_name name h.name) held
+use Rattle.ibos_mediate.specs.Rules.{is_in_ring}
 
 -- one of the buffers lies at that place
 abbrev pub has_place : List Held → Place → Bool
@@ -28,7 +25,7 @@ AreOutbound m names = (number : ℕ) → IsOpen m.transmit number → IsLoanOf n
 
 -- The names of these buffers are not taken any more, and their places not lent. All else is as it was.
 pub record AreGiven (held : List Held) (old new : Names) (mem mem' : Memory) : Type 0 where
-  pub names : (name : Name) → is_taken new name ≡ (if has_name held name then false else is_taken old name)
+  pub names : (name : Name) → is_taken new name ≡ (if is_in_ring held name then false else is_taken old name)
   pub places : (name : Name) → place_of new name ≡ place_of old name
   pub pool_areas : length new ≡ length old
   pub lent : (p : Place) → is_lent_at mem' p ≡ (if has_place held p then false else is_lent_at mem p)

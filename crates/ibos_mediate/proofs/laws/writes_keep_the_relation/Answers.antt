@@ -1,6 +1,5 @@
 use Rattle.ibos_mediate.proofs.DeviceLemmas.{device-written}
-use Rattle.ibos_mediate.proofs.PoolLemmas.{pool-written}
-use Rattle.ibos_mediate.proofs.WriteLemmas.{may_write, memory-written}
+use Rattle.ibos_mediate.proofs.WriteLemmas.{may_write, memory-written, pool-written}
 use Rattle.ibos_mediate.proofs.laws.writes_keep_the_relation.Goals as goal
 
 pub returns-clause-condition : goal.returns-clause-condition
