@@ -1,6 +1,7 @@
 -- What a ring is after its oldest descriptor was taken back.
 use Rattle.std.proofs.Common.{◌≡◌, ◌≢◌, ℕ, zero, suc, ◌+◌, ◌-◌, ◌*◌, ◌%◌, ◌<◌, ◌≤◌, ◌⊎◌, ◌==◌, List, [], ◌∷◌, Bool, true, false, length, drop, refl, sym, ◌∙◌, ap, inl, inr, ⊎_elim, subst, arith, length-drop}
 use Rattle.std.proofs.lemmas.Bool.{cases_eq, cases_lt}
+use Rattle.std.proofs.lemmas.Bool.Decides.{nat_tests}
 use Rattle.std.proofs.lemmas.List.{get_or-drop}
 use Rattle.std.specs.Prelude.{IsFalse, IsTrue, bit_and, slice_index, slice_index_or}
 use Rattle.ibos_pool.specs.declared.name.Ring.{Ring}
@@ -61,6 +62,32 @@ receive-done mem r slot d at is = ap (λ (x : RxDesc). bit_and x.status DONE == 
 pub transmit-done : (mem : Memory) (r : RingView) (slot : ℕ) (d : TxDesc) → slot ≡ slot_of r.taken → d ≡ tx_at mem (slot_address Transmit slot)
     → (bit_and d.sta DONE == DONE) ≡ is_done Transmit mem r.taken
 transmit-done mem r slot d at is = ap (λ (x : TxDesc). bit_and x.sta DONE == DONE) (is ∙ ap (λ s. tx_at mem (slot_address Transmit s)) at)
+
+test-true : (x : ℕ) → x ≡ DONE → (x == DONE) ≡ true
+test-true x is = rw is refl
+
+test-false : (x : ℕ) → (x ≡ DONE → ⊥) → (x == DONE) ≡ false
+test-false x differ = grind (arith, nat_tests, differ)
+
+pub receive-more : (mem : Memory) (r : RingView) (slot : ℕ) (d : RxDesc) → r.taken < r.posted → slot ≡ slot_of r.taken → d ≡ rx_at mem (slot_address Receive slot)
+    → bit_and d.status DONE ≡ DONE → r.taken < completed Receive mem r
+receive-more mem r slot d some at is done = completed-more Receive mem r some (sym (receive-done mem r slot d at is) ∙ test-true (bit_and d.status DONE) done)
+
+pub receive-none : (mem : Memory) (r : RingView) (slot : ℕ) (d : RxDesc) → r.taken < r.posted → slot ≡ slot_of r.taken → d ≡ rx_at mem (slot_address Receive slot)
+    → (bit_and d.status DONE ≡ DONE → ⊥) → completed Receive mem r ≡ r.taken
+receive-none mem r slot d some at is undone = completed-none Receive mem r some (sym (receive-done mem r slot d at is) ∙ test-false (bit_and d.status DONE) undone)
+
+pub transmit-empty : (mem : Memory) (r : RingView) → r.posted ≡ r.taken
+    → (IsTrue false → r.taken < completed Transmit mem r) × (r.taken < completed Transmit mem r → IsTrue false)
+transmit-empty mem r empty =
+    let none = completed-empty Transmit mem r empty in
+    (λ f. absurd (let clash : false ≡ true = f in cc), λ more. absurd (omega arith))
+
+pub transmit-sent : (mem : Memory) (r : RingView) (slot : ℕ) (d : TxDesc) → r.taken < r.posted → slot ≡ slot_of r.taken → d ≡ tx_at mem (slot_address Transmit slot)
+    → (IsTrue (bit_and d.sta DONE == DONE) → r.taken < completed Transmit mem r) × (r.taken < completed Transmit mem r → IsTrue (bit_and d.sta DONE == DONE))
+transmit-sent mem r slot d some at is = (
+    λ done. completed-more Transmit mem r some (sym (transmit-done mem r slot d at is) ∙ done),
+    λ more. transmit-done mem r slot d at is ∙ completed-before Transmit mem r r.taken (omega arith) more)
 
 module _ (ring : Ring) (old new : Memory) (r : RingView) (in_old : IsRingInMemory ring old r) (more : r.taken < completed ring old r)
     (same : (number : ℕ) → IsOpen (after_take r) number → descriptor_of ring new number ≡ descriptor_of ring old number) where
