@@ -15,7 +15,7 @@ first_not-stop : (test : ℕ → Bool) (n left : ℕ) → test n ≡ false → f
 unfolding first_not
 first_not-stop test n left fails = rw fails refl
 
-first_not-none : (test : ℕ → Bool) (n : ℕ) → first_not test n zero ≡ n
+pub first_not-none : (test : ℕ → Bool) (n : ℕ) → first_not test n zero ≡ n
 unfolding first_not
 first_not-none test n = refl
 

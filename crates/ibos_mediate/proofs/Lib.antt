@@ -12,3 +12,7 @@ pub mod PostedLemmas
 pub mod TakenLemmas
 pub mod PoolLemmas
 pub mod CallLemmas
+pub mod PutLemmas
+pub mod OtherLemmas
+pub mod CloseLemmas
+pub mod AwayLemmas

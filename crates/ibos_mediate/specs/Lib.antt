@@ -1,3 +1,4 @@
+pub mod Closing
 pub mod Mediated
 pub mod Posts
 pub mod Relation

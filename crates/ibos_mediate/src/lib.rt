@@ -2,6 +2,7 @@
 //! a ring holds, and what the memory, the pool and the card then are.
 #![tactic(auto)]
 
+mod closing;
 mod counts;
 mod descriptors;
 mod laws;
@@ -14,7 +15,8 @@ mod takes;
 
 pub use counts::Counts;
 pub use laws::{
-    arrivals_keep_the_relation, reads_keep_the_relation, transmissions_keep_the_relation,
+    arrivals_keep_the_relation, other_changes_keep_the_relation, other_names_keep_the_relation,
+    reads_keep_the_relation, relation_begins, transmissions_keep_the_relation,
     writes_keep_the_relation,
 };
 pub use limits::{CAUSE_BITS, RECEIVE_CONTROL, TRANSMIT_COMMAND, TRANSMIT_CONTROL, TRANSMIT_FIXED};

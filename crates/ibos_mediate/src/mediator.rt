@@ -173,7 +173,13 @@ impl Mediator {
     }
 
     /// Writes a register for the driver: refused by the first of M1, M2, M3, M8 and M4 that it breaks.
-    pub fn write<N: Nic>(&mut self, offset: u32, value: u32, nic: &mut N, mem: &Mem) -> Result<(), Rule>
+    pub fn write<N: Nic>(
+        &mut self,
+        offset: u32,
+        value: u32,
+        nic: &mut N,
+        mem: &Mem,
+    ) -> Result<(), Rule>
         requires memory { IsInMemory self.old mem.now }
         requires device { IsAtDevice self.old mem.now (N.regs nic.old) }
         ensures ok { OnOk result (write_rule self.old offset value ≡ None) }

@@ -84,6 +84,23 @@ impl RingState {
         held.destroy_empty();
     }
 
+    /// The buffers that a ring holds, where the ring ends.
+    pub(crate) fn into_held(self) -> HeapCircularBuffer<Away>
+        ensures { result.items ≡ self.held }
+    {
+        let RingState {
+            base: _,
+            len: _,
+            control: _,
+            posted: _,
+            rung: _,
+            taken: _,
+            held,
+            lengths: _lengths,
+        } = self;
+        held
+    }
+
     pub(crate) fn counts(&self) -> Counts
         ensures posted { result.posted ≡ self.now.posted }
         ensures rung { result.rung ≡ self.now.rung }
