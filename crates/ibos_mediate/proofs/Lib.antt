@@ -16,3 +16,4 @@ pub mod PutLemmas
 pub mod OtherLemmas
 pub mod CloseLemmas
 pub mod AwayLemmas
+pub mod UnheldLemmas
