@@ -1,7 +1,9 @@
 use Rattle.std.proofs.Common.{◌≡◌, ◌<◌, refl, subst, sym}
 use Rattle.ibos_pool.specs.declared.name.Ring.TheVariants.{Transmit}
-use Rattle.ibos_mediate.specs.Mediated.{Mediated}
+use Rattle.ibos_mediate.specs.Mediated.{Mediated, RingView}
 use Rattle.ibos_mediate.specs.Relation.{IsAtDevice, IsInMemory, completed}
+use Rattle.ibos_mediate.specs.Closing.{AreOutbound}
+use Rattle.ibos_mediate.proofs.UnheldLemmas.{outbound-taken}
 use Rattle.ibos_mediate.proofs.CallLemmas.{tx_taken-device, tx_taken-memory}
 use Rattle.ibos_mediate.proofs.TakeLemmas.{transmit-unsent}
 use Rattle.ibos_mediate.proofs.mediator.Mediator.tx_take.Goals as goal
@@ -27,3 +29,10 @@ returns-clause-device c = λ regs old.
     let more = subst PC (sym c.self.view_is) (c.if-not-is_sent.ensures.0 refl) in
     let PD : Mediated → Type 0 = λ m. IsAtDevice m c.args.mem.now regs in
     tx_taken-device m0 c.args.mem.now c.regain.new.self c.take-away.result c.take-away.new.self memory more c.take-away.ensures.value c.regain.ensures.marked c.take-away.ensures.after regs (subst PD (sym c.self.view_is) old)
+
+pub returns-clause-outbound : goal.returns-clause-outbound
+returns-clause-outbound c = λ names outbound.
+    let m0 : Mediated = record { receive = c.self.inside.receive; transmit = c.self.inside.transmit; turns = c.self.inside.turns } in
+    let PO : Mediated → Type 0 = λ m. AreOutbound m names in
+    let P : RingView → Type 0 = λ r. AreOutbound (record m0 { transmit = r }) names in
+    subst P (sym c.take-away.ensures.after) (outbound-taken m0 names (subst PO (sym c.self.view_is) outbound))
