@@ -16,3 +16,5 @@ pub mod PutLemmas
 pub mod OtherLemmas
 pub mod CloseLemmas
 pub mod AwayLemmas
+pub mod FrameLemmas
+pub mod HeardFrames
