@@ -84,7 +84,7 @@ module _ (rx_back : (d : RxDesc) → FitsRx d → rx_of (rx_bytes d) ≡ d)
   a = completed Receive mem m.receive
 
   module _ (more : a < m.receive.rung) (heard : IsReceived mem new (descriptor_at Receive a) written) where
-    is_open : IsOpen m.receive a
+    pub is_open : IsOpen m.receive a
     is_open =
         let low = completed-low Receive mem m.receive in
         let order = in_memory.receive.balanced.posted in
@@ -99,14 +99,14 @@ module _ (rx_back : (d : RxDesc) → FitsRx d → rx_of (rx_bytes d) ≡ d)
         let address : (rx_at mem (descriptor_at Receive a)).address ≡ address_of (place_for m.receive a) = in_memory.receive.named a is_open in
         heard.others (descriptor_at ring number) DESCRIPTOR_BYTES (inl (rw address (omega arith))) apart
 
-    stay-transmit : (number : ℕ) → descriptor_of Transmit new number ≡ descriptor_of Transmit mem number
+    pub stay-transmit : (number : ℕ) → descriptor_of Transmit new number ≡ descriptor_of Transmit mem number
     stay-transmit number = others Transmit number (rings_apart Transmit Receive number a (λ e. let clash : Transmit ≡ Receive = e in cc))
 
-    stay-receive : (number : ℕ) → IsOpen m.receive number → number ≢ a → descriptor_of Receive new number ≡ descriptor_of Receive mem number
+    pub stay-receive : (number : ℕ) → IsOpen m.receive number → number ≢ a → descriptor_of Receive new number ≡ descriptor_of Receive mem number
     stay-receive number open_number differ =
         others Receive number (descriptors_apart Receive number a (slots_apart m.receive number a in_memory.receive.balanced open_number is_open differ))
 
-    became : rx_at new (descriptor_at Receive a) ≡ received (rx_at mem (descriptor_at Receive a)) (length written)
+    pub became : rx_at new (descriptor_at Receive a) ≡ received (rx_at mem (descriptor_at Receive a)) (length written)
     became =
         let size = heard.size in
         let place = (in_memory.receive.lent a is_open).place in
@@ -116,7 +116,7 @@ module _ (rx_back : (d : RxDesc) → FitsRx d → rx_of (rx_bytes d) ≡ d)
         ∙ rx_back (received (rx_at mem (descriptor_at Receive a)) (length written))
         (record { address = rw address (omega arith); length = omega arith; checksum = omega arith; special = omega arith })
 
-    done : is_done Receive new a ≡ true
+    pub done : is_done Receive new a ≡ true
     done = rw became refl
 
     told : (rx_at new (descriptor_at Receive a)).length ≤ MOST_FRAME
@@ -198,13 +198,13 @@ module _ (rx_back : (d : RxDesc) → FitsRx d → rx_of (rx_bytes d) ≡ d)
   abbrev Hears : Result Verdict NoMemory → Type 0
   Hears result = OnHeard result ((written : List ℕ) × (after ≡ In frame written ∷ before) × IsReceived mem new (receive_head regs) written)
 
-  heard_waits : Heard ≡ verdict_of regs frame → IsTrue (is_enabled m.receive.control) × (completed Receive mem m.receive < m.receive.rung)
+  pub heard_waits : Heard ≡ verdict_of regs frame → IsTrue (is_enabled m.receive.control) × (completed Receive mem m.receive < m.receive.rung)
   heard_waits verdict =
       let ring = device.receive in
       waits Receive mem m.receive (regs Rctl) (regs Rdh) (regs Rdt) in_memory.receive ring.control ring.head ring.tail
       (heard_can (is_for_us regs frame) (can_receive regs) verdict)
 
-  heard_at : Heard ≡ verdict_of regs frame → (written : List ℕ) → IsReceived mem new (receive_head regs) written → IsReceived mem new (descriptor_at Receive (completed Receive mem m.receive)) written
+  pub heard_at : Heard ≡ verdict_of regs frame → (written : List ℕ) → IsReceived mem new (receive_head regs) written → IsReceived mem new (descriptor_at Receive (completed Receive mem m.receive)) written
   heard_at verdict written heard =
       let ring = device.receive in
       let now = heard_waits verdict in

@@ -17,3 +17,5 @@ pub mod OtherLemmas
 pub mod CloseLemmas
 pub mod AwayLemmas
 pub mod UnheldLemmas
+pub mod FrameLemmas
+pub mod HeardFrames

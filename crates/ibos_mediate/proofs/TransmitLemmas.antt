@@ -40,7 +40,7 @@ module _ (tx_back : (d : TxDesc) → FitsTx d → tx_of (tx_bytes d) ≡ d) (tx_
     abbrev after : TxDesc
     after = transmitted (tx_at mem (descriptor_at Transmit a))
 
-    is_open : IsOpen m.transmit a
+    pub is_open : IsOpen m.transmit a
     is_open =
         let low = completed-low Transmit mem m.transmit in
         let order = in_memory.transmit.balanced.posted in
@@ -50,18 +50,18 @@ module _ (tx_back : (d : TxDesc) → FitsTx d → tx_of (tx_bytes d) ≡ d) (tx_
         → descriptor_of ring new number ≡ descriptor_of ring mem number
     others ring number apart = sent.others (descriptor_at ring number) DESCRIPTOR_BYTES (rw (tx_length after) apart)
 
-    stay-receive : (number : ℕ) → descriptor_of Receive new number ≡ descriptor_of Receive mem number
+    pub stay-receive : (number : ℕ) → descriptor_of Receive new number ≡ descriptor_of Receive mem number
     stay-receive number = others Receive number (rings_apart Receive Transmit number a (λ e. let clash : Receive ≡ Transmit = e in cc))
 
-    stay-transmit : (number : ℕ) → IsOpen m.transmit number → number ≢ a → descriptor_of Transmit new number ≡ descriptor_of Transmit mem number
+    pub stay-transmit : (number : ℕ) → IsOpen m.transmit number → number ≢ a → descriptor_of Transmit new number ≡ descriptor_of Transmit mem number
     stay-transmit number open_number differ =
         others Transmit number (descriptors_apart Transmit number a (slots_apart m.transmit number a in_memory.transmit.balanced open_number is_open differ))
 
     -- the descriptor was as it was posted
-    was : tx_at mem (descriptor_at Transmit a) ≡ posted_tx (address_of (place_for m.transmit a)) (length_for m.transmit a)
+    pub was : tx_at mem (descriptor_at Transmit a) ≡ posted_tx (address_of (place_for m.transmit a)) (length_for m.transmit a)
     was = in_memory.transmit.waiting a (omega arith) is_open.1
 
-    became : tx_at new (descriptor_at Transmit a) ≡ after
+    pub became : tx_at new (descriptor_at Transmit a) ≡ after
     became =
         let place = (in_memory.transmit.lent a is_open).place in
         let small = address-small (place_for m.transmit a) (length mem) place in_memory.areas in
@@ -70,7 +70,7 @@ module _ (tx_back : (d : TxDesc) → FitsTx d → tx_of (tx_bytes d) ≡ d) (tx_
         subst (λ n. bytes_at new (descriptor_at Transmit a) n ≡ tx_bytes after) (tx_length after) sent.written in
         ap tx_of bytes ∙ tx_back after (rw was (record { address = omega arith; length = omega arith; special = omega arith }))
 
-    done : is_done Transmit new a ≡ true
+    pub done : is_done Transmit new a ≡ true
     done = rw (became, was) refl
 
     lent : (p : Place) → IsLent mem p → IsLent new p
@@ -116,12 +116,12 @@ module _ (tx_back : (d : TxDesc) → FitsTx d → tx_of (tx_bytes d) ≡ d) (tx_
 -- What `Nic` says of a frame that was to be sent.
 module _ (tx_back : (d : TxDesc) → FitsTx d → tx_of (tx_bytes d) ≡ d) (tx_length : (d : TxDesc) → length (tx_bytes d) ≡ DESCRIPTOR_BYTES)
     (m : Mediated) (mem new : Memory) (regs regs' : Registers) (in_memory : IsInMemory m mem) (device : IsAtDevice m mem regs) where
-  sent_waits : true ≡ can_transmit regs → IsTrue (is_enabled m.transmit.control) × (completed Transmit mem m.transmit < m.transmit.rung)
+  pub sent_waits : true ≡ can_transmit regs → IsTrue (is_enabled m.transmit.control) × (completed Transmit mem m.transmit < m.transmit.rung)
   sent_waits can =
       let ring = device.transmit in
       waits Transmit mem m.transmit (regs Tctl) (regs Tdh) (regs Tdt) in_memory.transmit ring.control ring.head ring.tail (sym can)
 
-  sent_at : true ≡ can_transmit regs → IsTransmitted mem new (transmit_head regs) → IsTransmitted mem new (descriptor_at Transmit (completed Transmit mem m.transmit))
+  pub sent_at : true ≡ can_transmit regs → IsTransmitted mem new (transmit_head regs) → IsTransmitted mem new (descriptor_at Transmit (completed Transmit mem m.transmit))
   sent_at can sent =
       let ring = device.transmit in
       let now = sent_waits can in

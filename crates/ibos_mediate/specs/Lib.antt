@@ -1,4 +1,5 @@
 pub mod Closing
+pub mod Frames
 pub mod Mediated
 pub mod Posts
 pub mod Relation

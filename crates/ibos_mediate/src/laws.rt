@@ -1,5 +1,5 @@
 //! Laws about the calls of a device, for every device: each keeps the relation of a mediator, the memory and the device.
-ghost use Rattle.std.specs.Prelude.{◌≡◌, ◌≢◌, ◌<◌, ◌≤◌, ◌⊎◌, List, ℕ, ◌∷◌, Bool, false, true, length, IfOk, IsTrue, Result};
+ghost use Rattle.std.specs.Prelude.{◌≡◌, ◌≢◌, ◌<◌, ◌≤◌, ◌⊎◌, List, ℕ, ◌∷◌, Bool, false, true, length, IfOk, IsTrue, None, Result};
 ghost use Rattle.ibos_kinds.specs.declared.names.Verdict.{Verdict};
 ghost use Rattle.ibos_kinds.specs.declared.bytes.Memory.{Memory as NoMemory};
 ghost use Rattle.ibos_pool.specs.declared.limits.TheConstants.{MOST_AREAS, RING_SLOTS};
@@ -16,9 +16,10 @@ ghost use Rattle.ibos_nic.specs.declared.reg.Reg.TheVariants.{Ral0, Rah0};
 ghost use Rattle.ibos_nic.specs.Device.{IsReceived, IsTransmitted, MayMoveTail, MayReceive, MayTransmit, OnHeard, OnSent, OnUnheard, OnUnsent, after_arrive, after_transmit, verdict_of};
 ghost use Rattle.ibos_nic.specs.Registers.{Registers, after_read, after_write, can_receive, can_transmit, receive_head, reset, transmit_head};
 ghost use Rattle.ibos_mediate.specs.Mediated.{Mediated};
-ghost use Rattle.ibos_mediate.specs.Relation.{IsAtDevice, IsInMemory, IsInPool, IsOpen, held_for};
+ghost use Rattle.ibos_mediate.specs.Relation.{IsAtDevice, IsInMemory, IsInPool, IsOpen, Mediates, held_for};
+ghost use Rattle.ibos_mediate.specs.Rules.{write_rule_of};
 ghost use Rattle.ibos_mediate.specs.States.{no_ring};
-ghost use Rattle.ibos_mediate.specs.Writes.{MayWrite, after_writing};
+ghost use Rattle.ibos_mediate.specs.Writes.{after_writing};
 
 use ibos_nic::descriptors_are_their_bytes;
 use ibos_pool::parts_are_apart;
@@ -27,18 +28,22 @@ use ibos_pool::parts_are_apart;
 pub fn reads_keep_the_relation()
     ensures device { (m : Mediated) (mem : Areas) (old new : Registers) (reg : Reg) → IsAtDevice m mem old
         → ((r : Reg) → new r ≡ after_read reg old r) → IsAtDevice m mem new }
+    ensures whole { (m : Mediated) (mem : Areas) (names : Names) (old new : Registers) (reg : Reg) → Mediates m mem old names
+        → ((r : Reg) → new r ≡ after_read reg old r) → Mediates m mem new names }
 {}
 
-/// Where the driver may write a value to a register, the condition of [`Nic::write`](ibos_nic::Nic::write) holds, and
-/// the relation holds afterwards of the mediator that keeps the value.
+/// Where a write to a register breaks none of M1, M2, M3, M8 and M4, the condition of
+/// [`Nic::write`](ibos_nic::Nic::write) holds, and the relation holds afterwards of the mediator that keeps the value.
 pub fn writes_keep_the_relation()
     ensures condition { (m : Mediated) (mem : Areas) (old : Registers) (reg : Reg) (value : ℕ) → IsInMemory m mem → IsAtDevice m mem old
-        → MayWrite m reg value → MayMoveTail mem old reg value }
+        → write_rule_of m reg value ≡ None → MayMoveTail mem old reg value }
     ensures memory { (m : Mediated) (mem : Areas) (reg : Reg) (value : ℕ) → IsInMemory m mem
-        → MayWrite m reg value → IsInMemory (after_writing reg value m) mem }
+        → write_rule_of m reg value ≡ None → IsInMemory (after_writing reg value m) mem }
     ensures device { (m : Mediated) (mem : Areas) (old new : Registers) (reg : Reg) (value : ℕ) → IsInMemory m mem → IsAtDevice m mem old
-        → MayWrite m reg value → ((r : Reg) → new r ≡ after_write reg value old r) → IsAtDevice (after_writing reg value m) mem new }
+        → write_rule_of m reg value ≡ None → ((r : Reg) → new r ≡ after_write reg value old r) → IsAtDevice (after_writing reg value m) mem new }
     ensures pool { (m : Mediated) (names : Names) (reg : Reg) (value : ℕ) → IsInPool m names → IsInPool (after_writing reg value m) names }
+    ensures whole { (m : Mediated) (mem : Areas) (names : Names) (old new : Registers) (reg : Reg) (value : ℕ) → Mediates m mem old names
+        → write_rule_of m reg value ≡ None → ((r : Reg) → new r ≡ after_write reg value old r) → Mediates (after_writing reg value m) mem new names }
 {}
 
 /// The condition of [`Nic::arrive`](ibos_nic::Nic::arrive) holds, and after each of its answers the relation holds of
@@ -54,6 +59,10 @@ pub fn arrivals_keep_the_relation()
         → IsInMemory m mem → IsAtDevice m mem old → IfOk result (λ verdict. verdict ≡ verdict_of old frame)
         → OnHeard result ((written : List ℕ) × (log' ≡ In frame written ∷ log) × IsReceived mem mem' (receive_head old) written)
         → OnUnheard result (mem' ≡ mem) → ((r : Reg) → new r ≡ after_arrive result old r) → IsAtDevice m mem' new }
+    ensures whole { (m : Mediated) (mem mem' : Areas) (names : Names) (old new : Registers) (frame : List ℕ) (log log' : List LogEntry) (result : Result Verdict NoMemory)
+        → Mediates m mem old names → IfOk result (λ verdict. verdict ≡ verdict_of old frame)
+        → OnHeard result ((written : List ℕ) × (log' ≡ In frame written ∷ log) × IsReceived mem mem' (receive_head old) written)
+        → OnUnheard result (mem' ≡ mem) → ((r : Reg) → new r ≡ after_arrive result old r) → Mediates m mem' new names }
 {
     descriptors_are_their_bytes();
     parts_are_apart();
@@ -71,6 +80,10 @@ pub fn transmissions_keep_the_relation()
         → IsInMemory m mem → IsAtDevice m mem old → IfOk result (λ sent. sent ≡ can_transmit old)
         → OnSent result (IsTransmitted mem mem' (transmit_head old)) → OnUnsent result (mem' ≡ mem)
         → ((r : Reg) → new r ≡ after_transmit result old r) → IsAtDevice m mem' new }
+    ensures whole { (m : Mediated) (mem mem' : Areas) (names : Names) (old new : Registers) (result : Result Bool NoMemory)
+        → Mediates m mem old names → IfOk result (λ sent. sent ≡ can_transmit old)
+        → OnSent result (IsTransmitted mem mem' (transmit_head old)) → OnUnsent result (mem' ≡ mem)
+        → ((r : Reg) → new r ≡ after_transmit result old r) → Mediates m mem' new names }
 {
     descriptors_are_their_bytes();
 }

@@ -11,3 +11,10 @@ returns-clause-memory c = λ m mem mem' old result in_memory device.
 pub returns-clause-device : goal.returns-clause-device
 returns-clause-device c = λ m mem mem' old new result in_memory device.
     device-transmitted c.descriptors_are_their_bytes.ensures.tx_back c.descriptors_are_their_bytes.ensures.tx_length m mem mem' old new in_memory device result
+
+pub returns-clause-whole : goal.returns-clause-whole
+returns-clause-whole c = λ m mem mem' names old new result all can sent unsent each. record {
+  memory = memory-transmitted c.descriptors_are_their_bytes.ensures.tx_back c.descriptors_are_their_bytes.ensures.tx_length m mem mem' old new all.memory all.device result can sent unsent;
+  device = device-transmitted c.descriptors_are_their_bytes.ensures.tx_back c.descriptors_are_their_bytes.ensures.tx_length m mem mem' old new all.memory all.device result can sent unsent each;
+  pool = all.pool;
+}
