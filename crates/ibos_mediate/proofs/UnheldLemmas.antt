@@ -1,22 +1,25 @@
 -- Which buffers no one holds, and whose the buffers of the transmit ring are, after each call.
 use Rattle.std.proofs.Common.{◌≡◌, ◌≢◌, ℕ, zero, suc, ◌+◌, ◌-◌, ◌<◌, ◌≤◌, ◌⊎◌, ◌||◌, List, [], ◌∷◌, ◌++◌, Bool, true, false, length, drop, cond, refl, sym, ◌∙◌, ap, inl, inr, ⊎_elim, subst, arith, length-drop}
 use Rattle.std.proofs.lemmas.Bool.{cases_eq}
+use Rattle.std.proofs.lemmas.Bool.Decides.{nat_tests}
+use Rattle.std.proofs.lemmas.List.Folds.{list_any_at}
 use Rattle.std.specs.Prelude.{slice_index_or}
 use Rattle.ibos_pool.specs.declared.name.Name.{Name}
+use Rattle.ibos_pool.specs.declared.name.Ring.{Ring}
 use Rattle.ibos_pool.specs.declared.name.Ring.TheVariants.{Receive, Transmit}
 use Rattle.ibos_pool.specs.declared.place.Place.{Place}
 use Rattle.ibos_pool.specs.declared.limits.TheConstants.{RECEIVE_BUFFERS}
 use Rattle.ibos_pool.specs.Memory.{IsKept, IsLent, IsMarked, Memory, is_lent_at}
 use Rattle.ibos_pool.specs.Names.{Held, IsClaimed, IsLoanOf, IsNameIn, IsOneToOne, Names, is_taken, place_of, same_name}
 use Rattle.ibos_pool.specs.Places.{IsPlaceIn, same_place}
-use Rattle.ibos_pool.proofs.NameLemmas.{same_name_from_test}
+use Rattle.ibos_pool.proofs.NameLemmas.{same_name_from_test, test_from_same_name}
 use Rattle.ibos_pool.proofs.PlaceLemmas.{same_from_test, test_from_same}
 use Rattle.ibos_nic.specs.declared.reg.Reg.{Reg}
 use Rattle.ibos_nic.specs.declared.reg.Reg.TheVariants.{Rctl, Tctl, Rdbal, Rdlen, Rdt, Tdbal, Tdlen, Tdt}
 use Rattle.ibos_mediate.specs.Closing.{AreOutbound}
 use Rattle.ibos_mediate.specs.Mediated.{IsBalanced, Mediated, RingView}
 use Rattle.ibos_mediate.specs.Posts.{AreUnheld, IsPosted, IsUnheld}
-use Rattle.ibos_mediate.specs.Relation.{IsInMemory, IsInPool, IsOpen, held_for, no_buffer}
+use Rattle.ibos_mediate.specs.Relation.{IsInMemory, IsInPool, IsOpen, held_for, no_buffer, ring_of}
 use Rattle.ibos_mediate.specs.Rules.{after_take, is_in_ring, receive_name, with_post}
 use Rattle.ibos_mediate.specs.Writes.{AreKept, after_writing}
 use Rattle.ibos_mediate.proofs.PoolLemmas.{any-none, bool_cases, loan-claimed}
@@ -198,3 +201,100 @@ outbound-taken m names outbound number is_open =
 pub outbound-claimed : (m : Mediated) (r : RingView) (turns : List ℕ) (old new : Names) (name : Name) → AreOutbound m old → IsClaimed old new name true
     → AreOutbound (record { receive = r; transmit = m.transmit; turns = turns }) new
 outbound-claimed m r turns old new name outbound claimed number is_open = loan-claimed old new name _ claimed (outbound number is_open)
+
+-- a loan stays one where another name is given back
+loan-left : (old new : Names) (name : Name) (h : Held) → IsClaimed old new name false → same_name h.name name ≡ false → IsLoanOf old h → IsLoanOf new h
+loan-left old new name h claimed differ loan = record {
+  name = let is = loan.name in rw claimed.areas (record { area = is.area; index = is.index });
+  taken = claimed.taken_names h.name ∙ ap (λ b. cond b false (is_taken old h.name)) differ ∙ loan.taken;
+  place = claimed.places h.name ∙ loan.place;
+}
+
+-- no descriptor has the buffer of a name that is not in the ring
+not_there : (r : RingView) (name : Name) (number : ℕ) → IsBalanced r → is_in_ring r.held name ≡ false → IsOpen r number → same_name (held_for r number).name name ≡ false
+not_there r name number balanced outside is_open =
+    let many = balanced.held in
+    let low = is_open.0 in
+    let high = is_open.1 in
+    ⊎_elim
+    (λ (same : same_name (held_for r number).name name ≡ true).
+    let this = same_name_from_test _ _ same in
+    let P : Name → Type 0 = λ n. same_name name n ≡ true in
+    let found = list_any_at (λ (h : Held). same_name name h.name) r.held (number - r.taken) no_buffer (omega arith) (subst P (sym this) (test_from_same_name name)) in
+    absurd (let clash : false ≡ true = sym outside ∙ found in cc))
+    (λ (differ : same_name (held_for r number).name name ≡ false). differ)
+    (bool_cases (same_name (held_for r number).name name))
+
+-- a name that is not in the receive ring is given back
+pub pool-given : (m : Mediated) (names names' : Names) (name : Name) → IsBalanced m.receive → IsInPool m names → is_in_ring m.receive.held name ≡ false
+    → IsClaimed names names' name false → IsInPool m names'
+pool-given m names names' name balanced in_pool outside claimed = record {
+  loans = λ number is_open. loan-left names names' name _ claimed (not_there m.receive name number balanced outside is_open) (in_pool.loans number is_open);
+  area = in_pool.area;
+  apart = in_pool.apart;
+}
+
+-- two descriptors have two names
+names_apart : (m : Mediated) (mem : Memory) (names : Names) (one other : Ring) (j k : ℕ) → IsInMemory m mem → IsOpen (ring_of m one) j → IsOpen (ring_of m other) k
+    → IsLoanOf names (held_for (ring_of m one) j) → IsLoanOf names (held_for (ring_of m other) k)
+    → (held_for (ring_of m one) j).name ≡ (held_for (ring_of m other) k).name → (one ≡ other) × (j ≡ k)
+names_apart m mem names one other j k memory open_j open_k a b same = memory.apart one other j k open_j open_k (sym a.place ∙ ap (place_of names) same ∙ b.place)
+
+-- the buffer of the oldest transmit descriptor is given back
+pub outbound-given : (m : Mediated) (mem : Memory) (names names' : Names) → IsInMemory m mem → AreOutbound m names → m.transmit.taken < m.transmit.posted
+    → IsClaimed names names' (held_for m.transmit m.transmit.taken).name false → AreOutbound (record m { transmit = after_take m.transmit }) names'
+outbound-given m mem names names' memory outbound some claimed number is_open =
+    let low = is_open.0 in
+    let Q : Held → Type 0 = λ x. IsLoanOf names' x in
+    let was : IsOpen m.transmit number = (omega arith, is_open.1) in
+    let first : IsOpen m.transmit m.transmit.taken = (omega arith, some) in
+    subst Q (sym (held-after m.transmit number is_open.0)) (loan-left names names' _ _ claimed
+    (⊎_elim
+    (λ (same : same_name (held_for m.transmit number).name (held_for m.transmit m.transmit.taken).name ≡ true).
+    let both = names_apart m mem names Transmit Transmit number m.transmit.taken memory was first (outbound number was) (outbound m.transmit.taken first) (same_name_from_test _ _ same) in
+    let this = both.1 in
+    absurd (omega arith))
+    (λ (differ : same_name (held_for m.transmit number).name (held_for m.transmit m.transmit.taken).name ≡ false). differ)
+    (bool_cases (same_name (held_for m.transmit number).name (held_for m.transmit m.transmit.taken).name)))
+    (outbound number was))
+
+pub pool-sent_given : (m : Mediated) (mem : Memory) (names names' : Names) → IsInMemory m mem → IsInPool m names → AreOutbound m names → m.transmit.taken < m.transmit.posted
+    → IsClaimed names names' (held_for m.transmit m.transmit.taken).name false → IsInPool (record m { transmit = after_take m.transmit }) names'
+pool-sent_given m mem names names' memory in_pool outbound some claimed =
+    let first : IsOpen m.transmit m.transmit.taken = (omega arith, some) in
+    record {
+      loans = λ number is_open. loan-left names names' _ _ claimed
+          (⊎_elim
+          (λ (same : same_name (held_for m.receive number).name (held_for m.transmit m.transmit.taken).name ≡ true).
+          let both = names_apart m mem names Receive Transmit number m.transmit.taken memory is_open first (in_pool.loans number is_open) (outbound m.transmit.taken first) (same_name_from_test _ _ same) in
+          absurd (let clash : Receive ≡ Transmit = both.0 in cc))
+          (λ (differ : same_name (held_for m.receive number).name (held_for m.transmit m.transmit.taken).name ≡ false). differ)
+          (bool_cases (same_name (held_for m.receive number).name (held_for m.transmit m.transmit.taken).name)))
+          (in_pool.loans number is_open);
+      area = in_pool.area;
+      apart = in_pool.apart;
+    }
+
+-- names that are given back, and names of other areas that are taken, leave each receive buffer unheld that was
+pub unheld-given : (m : Mediated) (names names' : Names) (mem : Memory) (name : Name) → AreUnheld m names mem → IsClaimed names names' name false → AreUnheld m names' mem
+unheld-given m names names' mem name unheld claimed index within outside =
+    let was = unheld index within outside in
+    let kept = was.kept in
+    record {
+      free = claimed.taken_names (receive_name index) ∙ stays_false (same_name (receive_name index) name) (is_taken names (receive_name index)) was.free;
+      kept = rw (claimed.places (receive_name index)) (record { place = kept.place; kept = kept.kept });
+    }
+  where
+    stays_false : (same before : Bool) → before ≡ false → cond same false before ≡ false
+    stays_false true before was = refl
+    stays_false false before was = was
+
+pub unheld-claimed : (m : Mediated) (names names' : Names) (mem : Memory) (name : Name) → AreUnheld m names mem → 0 < name.area → IsClaimed names names' name true → AreUnheld m names' mem
+unheld-claimed m names names' mem name unheld instance claimed index within outside =
+    let was = unheld index within outside in
+    let kept = was.kept in
+    let differ : same_name (receive_name index) name ≡ false = grind (arith, nat_tests) in
+    record {
+      free = claimed.taken_names (receive_name index) ∙ ap (λ b. cond b true (is_taken names (receive_name index))) differ ∙ was.free;
+      kept = rw (claimed.places (receive_name index)) (record { place = kept.place; kept = kept.kept });
+    }

@@ -75,6 +75,7 @@ impl Mediator {
         // Once the pool has the name back, no one holds a receive buffer that is not in the ring.
         ensures unheld { AreUnheld self.old pool.old mem.old → IfSome result (λ r. (names : Names)
             → IsClaimed pool.new names r.1.name false → AreUnheld self.new names mem.new) }
+        ensures given { IfSome result (λ r. (names : Names) → IsClaimed pool.new names r.1.name false → IsInPool self.new names) }
         ensures same { IfNone result (self.new ≡ self.old) }
         ensures same_memory { IfNone result (mem.new ≡ mem.old) }
         ensures same_pool { pool.new ≡ pool.old }
@@ -106,6 +107,12 @@ impl Mediator {
         ensures is_pools { IfSome result (λ loan. (names : Names) → AreOutbound self.old names → IsLoanOf names loan) }
         ensures unheld { (names : Names) → AreUnheld self.old names mem.old → AreUnheld self.new names mem.new }
         ensures outbound { (names : Names) → AreOutbound self.old names → AreOutbound self.new names }
+
+        // The same once the pool has the name back.
+        ensures given_outbound { IfSome result (λ loan. (names names' : Names) → AreOutbound self.old names
+            → IsClaimed names names' loan.name false → AreOutbound self.new names') }
+        ensures given_pool { IfSome result (λ loan. (names names' : Names) → IsInPool self.old names → AreOutbound self.old names
+            → IsClaimed names names' loan.name false → IsInPool self.new names') }
         ensures device { (regs : Registers) → IsAtDevice self.old mem.old regs → IsAtDevice self.new mem.new regs }
     {
         if !self.is_sent(mem) {

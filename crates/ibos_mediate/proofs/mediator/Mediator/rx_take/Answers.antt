@@ -6,7 +6,7 @@ use Rattle.ibos_mediate.specs.Rules.{is_in_ring, with_turn}
 use Rattle.ibos_pool.specs.Memory.{IsMarked}
 use Rattle.ibos_pool.specs.Names.{Held, IsClaimed}
 use Rattle.ibos_mediate.specs.Posts.{AreUnheld}
-use Rattle.ibos_mediate.proofs.UnheldLemmas.{taken-outside, unheld-taken}
+use Rattle.ibos_mediate.proofs.UnheldLemmas.{pool-given, taken-outside, unheld-taken}
 use Rattle.ibos_mediate.proofs.CallLemmas.{rx_taken-device, rx_taken-memory, rx_taken-pool}
 use Rattle.ibos_mediate.proofs.mediator.Mediator.rx_take.Goals as goal
 
@@ -80,3 +80,8 @@ returns-clause-unheld c = λ unheld names claimed.
     subst PA (sym c.raise_turn-turn.ensures.after) (subst PR (sym c.take-away.ensures.after)
     (unheld-taken m0 (with_turn m0.turns c.name-index.result.index) c.args.pool.now names c.args.mem.now c.regain-loan.new.self memory.receive.balanced some
     (subst PU (sym c.self.view_is) unheld) pool (memory.receive.lent m0.receive.taken (omega arith, some)) (subst PK c.take-away.ensures.value c.regain-loan.ensures.marked) (subst PN is claimed)))
+
+pub returns-clause-given : goal.returns-clause-given
+returns-clause-given c = λ names claimed.
+    let memory = returns-clause-memory c in
+    pool-given c.raise_turn-turn.new.self c.args.pool.now names _ memory.receive.balanced (returns-clause-pool c) (returns-clause-outside c) claimed
