@@ -127,9 +127,11 @@ unheld-taken m turns names names' mem mem' balanced some unheld in_pool lent mar
     either_false : (same : Bool) → same ≡ true → (before : Bool) → cond same false before ≡ false
     either_false true is before = refl
     either_false false is before = absurd (let clash : false ≡ true = is in cc)
+
     stays_false : (same before : Bool) → before ≡ false → cond same false before ≡ false
     stays_false true before was = refl
     stays_false false before was = was
+
     refl-case : same_place (held_for m.receive m.receive.taken).place (held_for m.receive m.receive.taken).place ≡ true
     refl-case = test_from_same (held_for m.receive m.receive.taken).place
 
@@ -144,11 +146,11 @@ unheld-sent m r names mem mem' h at bytes unheld one_to_one loan posted index wi
     let low = named.area in
     let name_in : IsNameIn (length names) (receive_name index) = record { area = omega arith; index = within } in
     let differ : same_place (place_of names (receive_name index)) h.place ≡ false = ⊎_elim
-        (λ (same : same_place (place_of names (receive_name index)) h.place ≡ true).
-        let name = one_to_one.apart (receive_name index) h.name name_in named (same_from_test _ _ same ∙ sym loan.place) in
-        absurd (let clash : false ≡ true = sym was.free ∙ ap (is_taken names) name ∙ loan.taken in cc))
-        (λ (not_same : same_place (place_of names (receive_name index)) h.place ≡ false). not_same)
-        (bool_cases (same_place (place_of names (receive_name index)) h.place)) in
+    (λ (same : same_place (place_of names (receive_name index)) h.place ≡ true).
+    let name = one_to_one.apart (receive_name index) h.name name_in named (same_from_test _ _ same ∙ sym loan.place) in
+    absurd (let clash : false ≡ true = sym was.free ∙ ap (is_taken names) name ∙ loan.taken in cc))
+    (λ (not_same : same_place (place_of names (receive_name index)) h.place ≡ false). not_same)
+    (bool_cases (same_place (place_of names (receive_name index)) h.place)) in
     record {
       free = was.free;
       kept = record {
@@ -323,7 +325,7 @@ pub outbound-kept : (m n : Mediated) (names : Names) → AreKept m.transmit n.tr
 outbound-kept m n names kept outbound number is_open =
     let was : IsOpen m.transmit number = (rw (← kept.taken) is_open.0, rw (← kept.posted) is_open.1) in
     let same : held_for m.transmit number ≡ held_for n.transmit number =
-        ap (λ xs. slice_index_or xs (number - m.transmit.taken) no_buffer) (sym kept.held) ∙ ap (λ t. slice_index_or n.transmit.held (number - t) no_buffer) (sym kept.taken) in
+    ap (λ xs. slice_index_or xs (number - m.transmit.taken) no_buffer) (sym kept.held) ∙ ap (λ t. slice_index_or n.transmit.held (number - t) no_buffer) (sym kept.taken) in
     let P : Held → Type 0 = λ h. IsLoanOf names h in
     subst P same (outbound number was)
 

@@ -68,8 +68,9 @@ pub(crate) fn lend_transmit(mem: &mut Mem, loan: Loan, len: u16, slot: u32) -> A
     ensures lent { IsLent mem.new loan.place }
 {
     descriptors_are_their_bytes();
+    let address = u64::from(loan.address());
     let descriptor = TxDesc {
-        address: u64::from(loan.address()),
+        address,
         length: len,
         cso: 0,
         cmd: TRANSMIT_COMMAND,

@@ -3,7 +3,6 @@ use Rattle.ibos_pool.specs.Names.{Names}
 use Rattle.ibos_mediate.specs.Mediated.{Mediated}
 use Rattle.ibos_mediate.specs.Relation.{IsAtDevice, IsInMemory, IsInPool}
 use Rattle.ibos_mediate.proofs.DeviceLemmas.{device-written}
-
 use Rattle.ibos_mediate.proofs.RuleLemmas.{may_from_rule}
 use Rattle.ibos_mediate.specs.Writes.{AreKept}
 use Rattle.ibos_mediate.proofs.UnheldLemmas.{receive-kept, transmit-kept, turns-kept}

@@ -27,7 +27,12 @@ invariant_of-self g c =
     let inv = c.self.invariant in
     let done = c.arrive.ensures in
     let law = c.arrivals_keep_the_relation.ensures in
-    let marks = alike c.arrive.result _ _ _ _ _ _ done.heard done.unheard_memory in
-    (law.memory _ _ _ _ _ _ _ c.arrive.result inv.0 inv.1 done.verdict done.heard done.unheard_memory,
-    law.device _ _ _ _ _ _ _ _ c.arrive.result inv.0 inv.1 done.verdict done.heard done.unheard_memory done.registers,
-    inv.2, unheld-alike c.self.inside.mediator c.self.inside.pool _ _ marks inv.3, inv.4, inv.5, marks.areas ∙ inv.6)
+    let marks = alike c.arrive.result _ _ _ _ _ _ done.heard done.unheard_memory in (
+      law.memory _ _ _ _ _ _ _ c.arrive.result inv.0 inv.1 done.verdict done.heard done.unheard_memory,
+      law.device _ _ _ _ _ _ _ _ c.arrive.result inv.0 inv.1 done.verdict done.heard done.unheard_memory done.registers,
+      inv.2,
+      unheld-alike c.self.inside.mediator c.self.inside.pool _ _ marks inv.3,
+      inv.4,
+      inv.5,
+      marks.areas ∙ inv.6,
+    )

@@ -20,18 +20,20 @@ invariant_of-result g c =
     let mem_areas : length c.grow_instance-2.new.self ≡ 2 = c.in_ok-grow_instance-2.ensures.areas ∙ ap (λ n. n + 1) c.in_ok-mem.ensures.areas in
     let names = c.grow_instance.ensures in
     let one_to_one = names.one_to_one in
-    let posted : m.transmit.posted ≡ 0 = ap (λ (r : RingView). r.posted) transmit in
-    (begins.memory m _ receive transmit (omega arith),
-    other.address m _ _ _ _ _ (inr refl)
-    (other.address m _ _ _ _ _ (inl refl) (begins.device m _ _ receive transmit (λ r ral rah. c.new-nic.ensures.registers r)) c.write.ensures.registers)
-    c.write-2.ensures.registers,
-    begins.pool m _ receive transmit,
-    (λ index within outside.
-    let place = one_to_one.within (receive_name index) (record { area = omega arith; index = within }) in
-    let area = place.area in
-    record {
-      free = names.taken (receive_name index) ∙ c.in_ok-pool.ensures.free (receive_name index);
-      kept = record { place = record { area = omega arith; index = place.index }; kept = c.grow_instance-2.ensures.lent _ ∙ c.in_ok-mem.ensures.kept _ };
-    }),
-    (λ number is_open. let high = is_open.1 in absurd (omega arith)),
-    pool_areas, mem_areas)
+    let posted : m.transmit.posted ≡ 0 = ap (λ (r : RingView). r.posted) transmit in (
+      begins.memory m _ receive transmit (omega arith),
+      other.address m _ _ _ _ _ (inr refl)
+          (other.address m _ _ _ _ _ (inl refl) (begins.device m _ _ receive transmit (λ r ral rah. c.new-nic.ensures.registers r)) c.write.ensures.registers)
+          c.write-2.ensures.registers,
+      begins.pool m _ receive transmit,
+      (λ index within outside.
+          let place = one_to_one.within (receive_name index) (record { area = omega arith; index = within }) in
+          let area = place.area in
+          record {
+            free = names.taken (receive_name index) ∙ c.in_ok-pool.ensures.free (receive_name index);
+            kept = record { place = record { area = omega arith; index = place.index }; kept = c.grow_instance-2.ensures.lent _ ∙ c.in_ok-mem.ensures.kept _ };
+          }),
+      (λ number is_open. let high = is_open.1 in absurd (omega arith)),
+      pool_areas,
+      mem_areas,
+    )

@@ -19,7 +19,12 @@ memory_areas (Err e) old new at bytes p posted same = ap length same
 pub invariant_of-self : goal.invariant_of-self
 invariant_of-self g c =
     let inv = c.self.invariant in
-    let done = c.rx_post.ensures in
-    (done.memory, done.device _ inv.1, done.pool, done.unheld, done.outbound inv.4,
-    pool_areas c.rx_post.result _ _ _ done.claimed done.same_pool ∙ inv.5,
-    memory_areas c.rx_post.result _ _ _ _ _ done.written done.same_memory ∙ inv.6)
+    let done = c.rx_post.ensures in (
+      done.memory,
+      done.device _ inv.1,
+      done.pool,
+      done.unheld,
+      done.outbound inv.4,
+      pool_areas c.rx_post.result _ _ _ done.claimed done.same_pool ∙ inv.5,
+      memory_areas c.rx_post.result _ _ _ _ _ done.written done.same_memory ∙ inv.6,
+    )

@@ -20,7 +20,12 @@ invariant_of-self g c =
     let inv = c.self.invariant in
     let done = c.transmit.ensures in
     let law = c.transmissions_keep_the_relation.ensures in
-    let marks = alike c.transmit.result _ _ _ done.sent_memory done.unsent_memory in
-    (law.memory _ _ _ _ c.transmit.result inv.0 inv.1 done.sent done.sent_memory done.unsent_memory,
-    law.device _ _ _ _ _ c.transmit.result inv.0 inv.1 done.sent done.sent_memory done.unsent_memory done.registers,
-    inv.2, unheld-alike c.self.inside.mediator c.self.inside.pool _ _ marks inv.3, inv.4, inv.5, marks.areas ∙ inv.6)
+    let marks = alike c.transmit.result _ _ _ done.sent_memory done.unsent_memory in (
+      law.memory _ _ _ _ c.transmit.result inv.0 inv.1 done.sent done.sent_memory done.unsent_memory,
+      law.device _ _ _ _ _ c.transmit.result inv.0 inv.1 done.sent done.sent_memory done.unsent_memory done.registers,
+      inv.2,
+      unheld-alike c.self.inside.mediator c.self.inside.pool _ _ marks inv.3,
+      inv.4,
+      inv.5,
+      marks.areas ∙ inv.6,
+    )
