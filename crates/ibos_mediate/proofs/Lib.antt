@@ -18,3 +18,5 @@ pub mod CloseLemmas
 pub mod AwayLemmas
 pub mod FrameLemmas
 pub mod HeardFrames
+pub mod SentFrames
+pub mod QueueLemmas
