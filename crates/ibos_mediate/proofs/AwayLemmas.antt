@@ -35,11 +35,13 @@ away-each : (exact : (p q : Place) → same_place p q ≡ true → p ≡ q) (nam
     → ((k : ℕ) → k < length held → IsLoanOf names (buffer_in held k)) → ((k : ℕ) → k < length held → IsLent mem (buffer_in held k).place)
     → ((j k : ℕ) → j < k → k < length held → (buffer_in held j).place ≢ (buffer_in held k).place) → AreAway names mem held
 away-each exact names mem [] loans lent apart = tt
-away-each exact names mem (x ∷ held) loans lent apart =
-    (loans 0 (omega arith), lent 0 (omega arith),
-    not_placed exact x.place held (λ k below. apart 0 (suc k) (omega arith) (omega arith)),
-    away-each exact names mem held (λ k below. loans (suc k) (omega arith)) (λ k below. lent (suc k) (omega arith))
-    (λ j k order below. apart (suc j) (suc k) (omega arith) (omega arith)))
+away-each exact names mem (x ∷ held) loans lent apart = (
+  loans 0 (omega arith),
+  lent 0 (omega arith),
+  not_placed exact x.place held (λ k below. apart 0 (suc k) (omega arith) (omega arith)),
+  away-each exact names mem held (λ k below. loans (suc k) (omega arith)) (λ k below. lent (suc k) (omega arith))
+      (λ j k order below. apart (suc j) (suc k) (omega arith) (omega arith)),
+)
 
 -- a buffer of two lists is one of either
 module _ (xs ys : List Held) where
@@ -131,10 +133,10 @@ module _ (exact : (p q : Place) → same_place p q ≡ true → p ≡ q) (names 
       let o = is_of j (omega arith) in
       let p = is_of k below in
       let places : place_for (ring_of m o.ring) o.number ≡ place_for (ring_of m p.ring) p.number =
-          ap (λ (h : Held). h.place) (sym o.buffer) ∙ same ∙ ap (λ (h : Held). h.place) p.buffer in
+      ap (λ (h : Held). h.place) (sym o.buffer) ∙ same ∙ ap (λ (h : Held). h.place) p.buffer in
       let one = in_memory.apart o.ring p.ring o.number p.number o.is_open p.is_open places in
       let equal : j ≡ k = one-index o.ring j k o.number o.low o.high
-          (λ is. one.1 ∙ p.low (sym one.0 ∙ is)) (λ is. ap (λ n. n + length xs) one.1 ∙ p.high (sym one.0 ∙ is)) in
+      (λ is. one.1 ∙ p.low (sym one.0 ∙ is)) (λ is. ap (λ n. n + length xs) one.1 ∙ p.high (sym one.0 ∙ is)) in
       omega arith)
 
 or_assoc : (a b c : Bool) → (a || (b || c)) ≡ ((a || b) || c)

@@ -42,15 +42,16 @@ away-rest exact same names new mem mem' h [] loan apart claimed marked away = tt
 away-rest exact same names new mem mem' h (x ∷ held) loan apart claimed marked away =
     let parts = either_way (same_place h.place x.place) (has_place held h.place) apart in
     let differ : same_place x.place h.place ≡ false = place-turned h.place x.place parts.0 in
-    let other : same_name x.name h.name ≡ false = names_differ exact same names x h away.0 loan differ in
-    (record {
-      name = rw claimed.areas away.0.name;
-      taken = claimed.taken_names x.name ∙ rw other away.0.taken;
-      place = claimed.places x.name ∙ away.0.place;
-    },
-    record { place = rw marked.areas away.1.place; lent = marked.lent x.place ∙ rw differ away.1.lent },
-    away.2,
-    away-rest exact same names new mem mem' h held loan parts.1 claimed marked away.3)
+    let other : same_name x.name h.name ≡ false = names_differ exact same names x h away.0 loan differ in (
+      record {
+        name = rw claimed.areas away.0.name;
+        taken = claimed.taken_names x.name ∙ rw other away.0.taken;
+        place = claimed.places x.name ∙ away.0.place;
+      },
+      record { place = rw marked.areas away.1.place; lent = marked.lent x.place ∙ rw differ away.1.lent },
+      away.2,
+      away-rest exact same names new mem mem' h held loan parts.1 claimed marked away.3,
+    )
 
 -- giving the first back, and then the rest, gives all back
 given-test : (first rest old : Bool) → cond rest false (cond first false old) ≡ cond (first || rest) false old

@@ -44,10 +44,10 @@ module _ (rx_back : (d : RxDesc) → FitsRx d → rx_of (rx_bytes d) ≡ d)
       let place' = (in_memory.receive.lent a this-open).place in
       let low = behind _ Receive p place in
       let apart : IsApart (address_of p) n (address_of (place_for m.receive a)) (length written) =
-          ⊎_elim
-          (λ (same : p ≡ place_for m.receive a). absurd (differ same))
-          (λ apart. parts_apart _ _ _ _ _ _ apart small (omega arith))
-          (buffers (length mem) p (place_for m.receive a) place place') in
+      ⊎_elim
+      (λ (same : p ≡ place_for m.receive a). absurd (differ same))
+      (λ apart. parts_apart _ _ _ _ _ _ apart small (omega arith))
+      (buffers (length mem) p (place_for m.receive a) place place') in
       heard.others (address_of p) n (rw address apart) (inr (omega arith))
 
   new-bytes : received_bytes new m.receive a ≡ written
@@ -69,11 +69,11 @@ module _ (rx_back : (d : RxDesc) → FitsRx d → rx_of (rx_bytes d) ≡ d)
       let within = in_memory.receive.rung in
       let order = in_memory.receive.balanced.posted in
       let step : completed Receive new m.receive ≡ a + 1 = completed-goes_on Receive mem new m.receive in_memory.receive more
-          (stay-receive rx_back behind m mem new written in_memory more heard) (done rx_back behind m mem new written in_memory more heard) in
+      (stay-receive rx_back behind m mem new written in_memory more heard) (done rx_back behind m mem new written in_memory more heard) in
       let count : completed Receive new m.receive - m.receive.taken ≡ (a - m.receive.taken) + 1 = omega arith in
       let at : m.receive.taken + (a - m.receive.taken) ≡ a = omega arith in
       let front = bytes_from-same (received_bytes mem m.receive) (received_bytes new m.receive) m.receive.taken (a - m.receive.taken)
-          (λ k from below. old-bytes k (from, omega arith) (omega arith)) in
+      (λ k from below. old-bytes k (from, omega arith) (omega arith)) in
       ap (λ n. bytes_from (received_bytes new m.receive) m.receive.taken n) count
       ∙ bytes_from-last (received_bytes new m.receive) m.receive.taken (a - m.receive.taken)
       ∙ ap (λ xs. xs ++ received_bytes new m.receive (m.receive.taken + (a - m.receive.taken)) ∷ []) front

@@ -83,27 +83,30 @@ pool-posted m old new h balanced in_pool claimed loan area free = record {
       (cases_eq number m.receive.posted);
   apart = λ j k open_j open_k same. ⊎_elim
       (λ (this : j ≡ m.receive.posted). ⊎_elim
-          (λ (that : k ≡ m.receive.posted). this ∙ sym that)
-          (λ (other : k ≢ m.receive.posted). absurd (clash k (before k open_k other) (sym (new_name j this) ∙ same)))
-          (cases_eq k m.receive.posted))
+      (λ (that : k ≡ m.receive.posted). this ∙ sym that)
+      (λ (other : k ≢ m.receive.posted). absurd (clash k (before k open_k other) (sym (new_name j this) ∙ same)))
+      (cases_eq k m.receive.posted))
       (λ (other : j ≢ m.receive.posted). ⊎_elim
-          (λ (that : k ≡ m.receive.posted). absurd (clash j (before j open_j other) (sym (new_name k that) ∙ sym same)))
-          (λ (other' : k ≢ m.receive.posted).
-          let was_j = before j open_j other in
-          let was_k = before k open_k other' in
-          in_pool.apart j k was_j was_k (sym (old_name j was_j) ∙ same ∙ old_name k was_k))
-          (cases_eq k m.receive.posted))
+      (λ (that : k ≡ m.receive.posted). absurd (clash j (before j open_j other) (sym (new_name k that) ∙ sym same)))
+      (λ (other' : k ≢ m.receive.posted).
+      let was_j = before j open_j other in
+      let was_k = before k open_k other' in
+      in_pool.apart j k was_j was_k (sym (old_name j was_j) ∙ same ∙ old_name k was_k))
+      (cases_eq k m.receive.posted))
       (cases_eq j m.receive.posted);
 }
   where
     before : (number : ℕ) → IsOpen (with_post m.receive h 0) number → number ≢ m.receive.posted → IsOpen m.receive number
     before number is_open other = (is_open.0, let high = is_open.1 in omega arith)
+
     old_name : (number : ℕ) → IsOpen m.receive number → (held_for (with_post m.receive h 0) number).name ≡ (held_for m.receive number).name
     old_name number was = ap (λ (x : Held). x.name) (held-before m.receive h 0 balanced number was)
+
     new_name : (number : ℕ) → number ≡ m.receive.posted → (held_for (with_post m.receive h 0) number).name ≡ h.name
     new_name number this =
         let P : ℕ → Type 0 = λ n. (held_for (with_post m.receive h 0) n).name ≡ h.name in
         subst P (sym this) (ap (λ (x : Held). x.name) (held-new m.receive h 0 balanced))
+
     clash : (number : ℕ) → IsOpen m.receive number → h.name ≡ (held_for (with_post m.receive h 0) number).name → ⊥
     clash number was same =
         let loan' = in_pool.loans number was in
@@ -150,12 +153,15 @@ unheld-posted m old new mem mem' index at bytes unheld one_to_one some within cl
     first-false : (a b : Bool) → (a || (b || false)) ≡ false → a ≡ false
     first-false false b test = refl
     first-false true b test = absurd (let clash : true ≡ false = test in cc)
+
     second-false : (a b : Bool) → (a || (b || false)) ≡ false → b ≡ false
     second-false a false test = refl
     second-false false true test = absurd (let clash : true ≡ false = test in cc)
     second-false true true test = absurd (let clash : true ≡ false = test in cc)
+
     name_in : (i : ℕ) → i < RECEIVE_BUFFERS → IsNameIn (length old) (receive_name i)
     name_in i small = record { area = some; index = small }
+
     apart : same_name (receive_name other) (receive_name index) ≡ false → same_place (place_of old (receive_name other)) (place_of old (receive_name index)) ≡ false
     apart differ = ⊎_elim
         (λ (same : same_place (place_of old (receive_name other)) (place_of old (receive_name index)) ≡ true).

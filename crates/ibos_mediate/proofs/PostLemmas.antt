@@ -134,7 +134,7 @@ module _ (ring : Ring) (old new : Memory) (r : RingView) (h : Held) (len : ℕ) 
             let P : ℕ → Type 0 = λ n. IsLent new (place_for (with_post r h len) n) in
             let Q : Held → Type 0 = λ x. IsLent new x.place in
             subst P (sym this) (subst Q (sym (held-new r h len in_old.balanced)) lent_new))
-            (λ (other : number ≢ r.posted). 
+            (λ (other : number ≢ r.posted).
             let was = before number is_open other in
             let P : Held → Type 0 = λ x. IsLent new x.place in
             subst P (sym (held-before r h len in_old.balanced number was)) (lent number was))
@@ -144,7 +144,7 @@ module _ (ring : Ring) (old new : Memory) (r : RingView) (h : Held) (len : ℕ) 
             let P : ℕ → Type 0 = λ n. length_for (with_post r h len) n ≤ BUFFER_BYTES in
             let Q : ℕ → Type 0 = λ n. n ≤ BUFFER_BYTES in
             subst P (sym this) (subst Q (sym (length-new r h len in_old.balanced)) small))
-            (λ (other : number ≢ r.posted). 
+            (λ (other : number ≢ r.posted).
             let was = before number is_open other in
             let P : ℕ → Type 0 = λ l. l ≤ BUFFER_BYTES in
             subst P (sym (length-before r h len in_old.balanced number was)) (in_old.inside number was))

@@ -83,14 +83,17 @@ module _ (ring : Ring) (old new : Memory) (m : Mediated) (h : Held) (len : ℕ) 
 
   own-origin : (j : ℕ) → IsOpen (with_post (ring_of m ring) h len) j → Origin ring j (with_post (ring_of m ring) h len)
   own-origin j is_open = ⊎_elim
-      (λ (this : j ≡ (ring_of m ring).posted). inl (refl, this,
-          let P : ℕ → Type 0 = λ n. place_for (with_post (ring_of m ring) h len) n ≡ h.place in
-          subst P (sym this) (ap (λ (x : Held). x.place) (held-new (ring_of m ring) h len (in_ring ring m old in_old).balanced))))
+      (λ (this : j ≡ (ring_of m ring).posted). inl (
+        refl,
+        this,
+        let P : ℕ → Type 0 = λ n. place_for (with_post (ring_of m ring) h len) n ≡ h.place in
+            subst P (sym this) (ap (λ (x : Held). x.place) (held-new (ring_of m ring) h len (in_ring ring m old in_old).balanced)),
+      ))
       (λ (other : j ≢ (ring_of m ring).posted).
-          let low = is_open.0 in
-          let high = is_open.1 in
-          let was : IsOpen (ring_of m ring) j = (low, omega arith) in
-          inr (was, ap (λ (x : Held). x.place) (held-before (ring_of m ring) h len (in_ring ring m old in_old).balanced j was)))
+      let low = is_open.0 in
+      let high = is_open.1 in
+      let was : IsOpen (ring_of m ring) j = (low, omega arith) in
+      inr (was, ap (λ (x : Held). x.place) (held-before (ring_of m ring) h len (in_ring ring m old in_old).balanced j was)))
       (cases_eq j (ring_of m ring).posted)
 
   -- a place that was lent is not that of the new buffer

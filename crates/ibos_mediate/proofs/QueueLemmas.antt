@@ -1,10 +1,10 @@
 -- What posts and takes make of the frames in the buffers.
-use Rattle.std.proofs.Common.{◌≡◌, ◌≢◌, ℕ, suc, ◌+◌, ◌-◌, ◌<◌, ◌≤◌, ◌⊎◌, List, [], ◌∷◌, ◌++◌, Bool, true, false, length, refl, sym, ◌∙◌, ap, inl, inr, ⊎_elim, subst, arith}
+use Rattle.std.proofs.Common.{◌≡◌, ◌≢◌, ℕ, suc, ◌+◌, ◌-◌, ◌<◌, ◌≤◌, ◌⊎◌, List, [], ◌∷◌, ◌++◌, Bool, true, false, length, take, refl, sym, ◌∙◌, ap, inl, inr, ⊎_elim, subst, arith}
 use Rattle.ibos_pool.specs.declared.name.Ring.{Ring}
 use Rattle.ibos_pool.specs.declared.name.Ring.TheVariants.{Receive, Transmit}
 use Rattle.ibos_pool.specs.declared.place.Place.{Place}
 use Rattle.ibos_pool.specs.declared.limits.TheConstants.{BUFFER_BYTES, DESCRIPTOR_BYTES, RING_BYTES}
-use Rattle.ibos_pool.specs.Memory.{IsKept, IsLent, IsMarked, Memory, bytes_at}
+use Rattle.ibos_pool.specs.Memory.{IsKept, IsLent, Memory, buffer_at, bytes_at}
 use Rattle.ibos_pool.specs.Names.{Held}
 use Rattle.ibos_pool.specs.Places.{IsPlaceIn, address_of, ring_base}
 use Rattle.ibos_nic.specs.declared.limits.TheConstants.{MOST_FRAME}
@@ -127,10 +127,10 @@ module _ (m : Mediated) (old new : Memory) (in_memory : IsInMemory m old) (bytes
       let count : a - m.receive.taken ≡ suc (a - (m.receive.taken + 1)) = omega arith in
       let done = completed-taken Receive old new m.receive in_memory.receive more (λ number is_open. bytes (descriptor_at Receive number) DESCRIPTOR_BYTES) in
       let rest = bytes_from-same f (received_bytes new (after_take m.receive)) (m.receive.taken + 1) (a - (m.receive.taken + 1))
-          (λ k from below.
-          ap (λ (b : Held). bytes_at new (address_of b.place) (told_length Receive new k)) (held-after m.receive k from)
-          ∙ ap (λ n. bytes_at new (address_of (place_for m.receive k)) n) (told-same Receive old new k (bytes (descriptor_at Receive k) DESCRIPTOR_BYTES))
-          ∙ bytes (address_of (place_for m.receive k)) _) in
+      (λ k from below.
+      ap (λ (b : Held). bytes_at new (address_of b.place) (told_length Receive new k)) (held-after m.receive k from)
+      ∙ ap (λ n. bytes_at new (address_of (place_for m.receive k)) n) (told-same Receive old new k (bytes (descriptor_at Receive k) DESCRIPTOR_BYTES))
+      ∙ bytes (address_of (place_for m.receive k)) _) in
       ap (λ n. bytes_from f m.receive.taken n) count
       ∙ bytes_from-first f m.receive.taken (a - (m.receive.taken + 1))
       ∙ ap (λ xs. f m.receive.taken ∷ xs) (sym rest ∙ sym (ap (λ n. bytes_from (received_bytes new (after_take m.receive)) (m.receive.taken + 1) (n - (m.receive.taken + 1))) done))
@@ -174,3 +174,29 @@ unsent-written m mem Tdbal value = refl
 unsent-written m mem Tdlen value = refl
 unsent-written m mem Tdt value = refl
 unsent-written m mem other value = refl
+
+-- there was room for a post that left the ring balanced
+pub room-before : (r : RingView) (h : Held) (len : ℕ) → IsBalanced (with_post r h len) → r.posted < r.taken + (ring_size - 1)
+room-before r h len balanced = let room = balanced.room in omega arith
+
+-- the new descriptor is as it was posted
+pub as_posted-new : (ring : Ring) (r : RingView) (h : Held) (len : ℕ) (mem : Memory) → IsBalanced r → IsRingInMemory ring mem (with_post r h len)
+    → IsAsPosted ring mem r.posted (address_of h.place) len
+as_posted-new ring r h len mem balanced in_ring =
+    let within = in_ring.rung in
+    let low = balanced.rung in
+    let before = balanced.posted in
+    let as_posted = in_ring.waiting r.posted (omega arith) (omega arith) in
+    let P : Held → ℕ → Type 0 = λ b n. IsAsPosted ring mem r.posted (address_of b.place) n in
+    subst (λ b. P b len) (held-new r h len balanced) (subst (P (held_for (with_post r h len) r.posted)) (length-new r h len balanced) as_posted)
+
+-- the device is done with a descriptor more than were taken back
+pub more-done : (ring : Ring) (mem : Memory) (r : RingView) → completed ring mem r ≢ r.taken → r.taken < completed ring mem r
+more-done ring mem r differ = let low = completed-low ring mem r in omega arith
+
+-- where whole buffers are the same, their fronts are
+pub fronts-same : (fronts : (m : Memory) (address n k : ℕ) → k ≤ n → take k (bytes_at m address n) ≡ bytes_at m address k)
+    → (old new : Memory) → ((p : Place) → IsLent old p → buffer_at new p ≡ buffer_at old p)
+    → (p : Place) (n : ℕ) → IsLent old p → n ≤ BUFFER_BYTES → bytes_at new (address_of p) n ≡ bytes_at old (address_of p) n
+fronts-same fronts old new buffers p n lent small =
+    sym (fronts new (address_of p) BUFFER_BYTES n small) ∙ ap (λ bytes. take n bytes) (buffers p lent) ∙ fronts old (address_of p) BUFFER_BYTES n small

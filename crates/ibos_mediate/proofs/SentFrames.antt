@@ -41,12 +41,12 @@ module _ (tx_back : (d : TxDesc) → FitsTx d → tx_of (tx_bytes d) ≡ d) (tx_
       let low = completed-low Transmit mem m.transmit in
       let order = in_memory.transmit.balanced.posted in
       let step : completed Transmit new m.transmit ≡ a + 1 = completed-goes_on Transmit mem new m.transmit in_memory.transmit more
-          (stay-transmit tx_back tx_length m mem new in_memory more sent) (done tx_back tx_length m mem new in_memory more sent) in
+      (stay-transmit tx_back tx_length m mem new in_memory more sent) (done tx_back tx_length m mem new in_memory more sent) in
       let count : m.transmit.posted - a ≡ suc (m.transmit.posted - (a + 1)) = omega arith in
       let rest = bytes_from-same (outgoing_bytes mem m.transmit) (outgoing_bytes new m.transmit) (a + 1) (m.transmit.posted - (a + 1))
-          (λ k from below.
-          let open_k : IsOpen m.transmit k = (omega arith, omega arith) in
-          buffer-stays _ _ (in_memory.transmit.lent k open_k) (in_memory.transmit.inside k open_k)) in
+      (λ k from below.
+      let open_k : IsOpen m.transmit k = (omega arith, omega arith) in
+      buffer-stays _ _ (in_memory.transmit.lent k open_k) (in_memory.transmit.inside k open_k)) in
       ap (λ n. bytes_from (outgoing_bytes mem m.transmit) a n) count
       ∙ bytes_from-first (outgoing_bytes mem m.transmit) a (m.transmit.posted - (a + 1))
       ∙ ap (λ x. x ∷ bytes_from (outgoing_bytes mem m.transmit) (a + 1) (m.transmit.posted - (a + 1))) this-frame

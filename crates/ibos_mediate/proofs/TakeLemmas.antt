@@ -94,8 +94,9 @@ transmit-unsent mem r not_more =
 pub transmit-sent : (mem : Memory) (r : RingView) (slot : ℕ) (d : TxDesc) → r.taken < r.posted → slot ≡ slot_of r.taken → d ≡ tx_at mem (slot_address Transmit slot)
     → (IsTrue (bit_and d.sta DONE == DONE) → r.taken < completed Transmit mem r) × (r.taken < completed Transmit mem r → IsTrue (bit_and d.sta DONE == DONE))
 transmit-sent mem r slot d some at is = (
-    λ done. completed-more Transmit mem r some (sym (transmit-done mem r slot d at is) ∙ done),
-    λ more. transmit-done mem r slot d at is ∙ completed-before Transmit mem r r.taken (omega arith) more)
+  λ done. completed-more Transmit mem r some (sym (transmit-done mem r slot d at is) ∙ done),
+  λ more. transmit-done mem r slot d at is ∙ completed-before Transmit mem r r.taken (omega arith) more,
+)
 
 module _ (ring : Ring) (old new : Memory) (r : RingView) (in_old : IsRingInMemory ring old r) (more : r.taken < completed ring old r)
     (same : (number : ℕ) → IsOpen (after_take r) number → descriptor_of ring new number ≡ descriptor_of ring old number) where

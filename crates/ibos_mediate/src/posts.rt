@@ -26,7 +26,13 @@ impl Mediator {
 
     /// Posts a receive buffer for the driver: refused by the first of M8, M7, M5 and M6 that the post breaks. Else the
     /// buffer is taken and lent, and the descriptor at the slot names it and is 0 beside.
-    pub fn rx_post(&mut self, slot: u32, handle: Handle, pool: &mut Pool, mem: &mut Mem) -> Result<(), Rule>
+    pub fn rx_post(
+        &mut self,
+        slot: u32,
+        handle: Handle,
+        pool: &mut Pool,
+        mem: &mut Mem,
+    ) -> Result<(), Rule>
         requires posts { self.old.receive.posted < 2 ^ 31 }
         requires memory { IsInMemory self.old mem.old }
         requires pool { IsInPool self.old pool.old }

@@ -3,7 +3,6 @@ use Rattle.ibos_pool.specs.Names.{Names}
 use Rattle.ibos_mediate.specs.Mediated.{Mediated}
 use Rattle.ibos_mediate.specs.Relation.{IsAtDevice, IsInMemory, IsInPool}
 use Rattle.ibos_mediate.proofs.DeviceLemmas.{device-written}
-
 use Rattle.ibos_mediate.proofs.RuleLemmas.{may_from_rule}
 use Rattle.ibos_mediate.proofs.WriteLemmas.{may_write, memory-written, pool-written}
 use Rattle.ibos_mediate.proofs.mediator.Mediator.write.Goals as goal
