@@ -16,6 +16,7 @@ pub mod PutLemmas
 pub mod OtherLemmas
 pub mod CloseLemmas
 pub mod AwayLemmas
+pub mod UnheldLemmas
 pub mod FrameLemmas
 pub mod HeardFrames
 pub mod SentFrames

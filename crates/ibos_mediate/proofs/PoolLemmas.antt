@@ -19,12 +19,12 @@ use Rattle.ibos_mediate.specs.Rules.{after_take, is_in_ring, receive_name, with_
 use Rattle.ibos_mediate.proofs.PostLemmas.{held-before, held-new}
 use Rattle.ibos_mediate.proofs.TakeLemmas.{held-after}
 
-bool_cases : (b : Bool) → (b ≡ true) ⊎ (b ≡ false)
+pub bool_cases : (b : Bool) → (b ≡ true) ⊎ (b ≡ false)
 bool_cases true = inl refl
 bool_cases false = inr refl
 
 -- a test that fails at each place fails for the list
-any-none : (test : Held → Bool) (xs : List Held) → ((i : ℕ) → i < length xs → test (slice_index_or xs i no_buffer) ≡ false) → list_any test xs ≡ false
+pub any-none : (test : Held → Bool) (xs : List Held) → ((i : ℕ) → i < length xs → test (slice_index_or xs i no_buffer) ≡ false) → list_any test xs ≡ false
 any-none test [] fails = refl
 any-none test (x ∷ xs) fails = rw (fails zero (omega arith)) (any-none test xs (λ i below. fails (suc i) (omega arith)))
 
@@ -46,7 +46,7 @@ not_in_ring m names name balanced in_pool free =
     (bool_cases (same_name name (slice_index_or m.receive.held i no_buffer).name)))
 
 -- a loan stays one where another name is taken
-loan-claimed : (old new : Names) (name : Name) (h : Held) → IsClaimed old new name true → IsLoanOf old h → IsLoanOf new h
+pub loan-claimed : (old new : Names) (name : Name) (h : Held) → IsClaimed old new name true → IsLoanOf old h → IsLoanOf new h
 loan-claimed old new name h claimed loan = record {
   name = let is = loan.name in rw claimed.areas (record { area = is.area; index = is.index });
   taken = claimed.taken_names h.name ∙ still (same_name h.name name) (is_taken old h.name) loan.taken;

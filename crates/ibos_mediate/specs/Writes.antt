@@ -51,3 +51,10 @@ after_writing Tdbal value m = record m { transmit = record m.transmit { base = v
 after_writing Tdlen value m = record m { transmit = record m.transmit { len = value } }
 after_writing Tdt value m = record m { transmit = rung_to value m.transmit }
 after_writing other value m = m
+
+-- a ring whose descriptors are as they were
+pub record AreKept (old new : RingView) : Type 0 where
+  pub posted : new.posted ≡ old.posted
+  pub taken : new.taken ≡ old.taken
+  pub held : new.held ≡ old.held
+  pub lengths : new.lengths ≡ old.lengths

@@ -9,7 +9,7 @@ ghost use Rattle.ibos_mediate.specs.Mediated.{IsBalanced};
 ghost use Rattle.ibos_mediate.specs.Relation.{IsAtDevice, IsInMemory, IsInPool};
 ghost use Rattle.ibos_mediate.specs.Rules.{read_rule, reg_at, slot_rule, write_rule, write_rule_of, is_after_enable, is_beyond_posted, is_unconfigured, is_value};
 ghost use Rattle.ibos_mediate.specs.States.{no_ring};
-ghost use Rattle.ibos_mediate.specs.Writes.{MayWrite, after_writing};
+ghost use Rattle.ibos_mediate.specs.Writes.{AreKept, MayWrite, after_writing};
 
 use crate::counts::Counts;
 use crate::registers::{is_value, is_writable, reg_at};
@@ -189,6 +189,9 @@ impl Mediator {
         ensures log { N.log nic.new ≡ N.log nic.old }
         ensures same { OnErr result (self.new ≡ self.old) }
         ensures same_device { OnErr result (nic.new ≡ nic.old) }
+        ensures receive { AreKept self.old.receive self.new.receive }
+        ensures transmit { AreKept self.old.transmit self.new.transmit }
+        ensures turns { self.new.turns ≡ self.old.turns }
         ensures memory { IsInMemory self.new mem.now }
         ensures device { IsAtDevice self.new mem.now (N.regs nic.new) }
         ensures pool { (names : Names) → IsInPool self.old names → IsInPool self.new names }

@@ -2,10 +2,11 @@
 ghost use Rattle.std.specs.Prelude.{◌≡◌, ◌<◌, ◌≤◌, ◌^◌, ◌%◌, None, Some, true, IfErr, OnErr, OnOk};
 ghost use Rattle.ibos_pool.specs.declared.name.Ring.TheVariants.{Receive, Transmit};
 ghost use Rattle.ibos_pool.specs.Memory.{IsKept};
-ghost use Rattle.ibos_pool.specs.Names.{IsClaimed, IsOneToOne, Names};
+ghost use Rattle.ibos_pool.specs.Names.{IsClaimed, IsLoanOf, IsOneToOne, Names};
 ghost use Rattle.ibos_pool.specs.Places.{address_of};
 ghost use Rattle.ibos_nic.specs.Descriptors.{rx_bytes, tx_bytes};
 ghost use Rattle.ibos_nic.specs.Registers.{Registers, ring_size};
+ghost use Rattle.ibos_mediate.specs.Closing.{AreOutbound};
 ghost use Rattle.ibos_mediate.specs.Posts.{AreUnheld, IsPosted, IsSamePool, receive_buffer};
 ghost use Rattle.ibos_mediate.specs.Relation.{IsAtDevice, IsInMemory, IsInPool, descriptor_at, posted_rx, posted_tx};
 ghost use Rattle.ibos_mediate.specs.Rules.{is_newest, receive_name, receive_rule, slot_rule, with_post};
@@ -49,6 +50,7 @@ impl Mediator {
         ensures memory { IsInMemory self.new mem.new }
         ensures pool { IsInPool self.new pool.new }
         ensures unheld { AreUnheld self.new pool.new mem.new }
+        ensures outbound { AreOutbound self.old pool.old → AreOutbound self.new pool.new }
         ensures device { (regs : Registers) → IsAtDevice self.old mem.old regs → IsAtDevice self.new mem.new regs }
     {
         descriptors_are_their_bytes();
@@ -84,6 +86,8 @@ impl Mediator {
         ensures written { IsPosted mem.old mem.new (descriptor_at Transmit self.old.transmit.posted) (tx_bytes (posted_tx (address_of loan.place) len)) loan.place }
         ensures memory { IsInMemory self.new mem.new }
         ensures pool { (names : Names) → IsInPool self.old names → IsInPool self.new names }
+        ensures unheld { (names : Names) → IsOneToOne names → IsLoanOf names loan → AreUnheld self.old names mem.old → AreUnheld self.new names mem.new }
+        ensures outbound { (names : Names) → IsLoanOf names loan → AreOutbound self.old names → AreOutbound self.new names }
         ensures device { (regs : Registers) → IsAtDevice self.old mem.old regs → IsAtDevice self.new mem.new regs }
     {
         descriptors_are_their_bytes();

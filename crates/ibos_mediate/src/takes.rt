@@ -1,12 +1,14 @@
 //! Descriptors that are taken back.
-ghost use Rattle.std.specs.Prelude.{◌≡◌, ◌+◌, ◌<◌, ◌≤◌, ◌↔◌, ◌<◌, false, slice_index, IfNone, IfSome, IsNone, IsTrue};
+ghost use Rattle.std.specs.Prelude.{◌≡◌, ◌+◌, ◌<◌, ◌≤◌, ◌↔◌, false, slice_index, IfNone, IfSome, IsNone, IsTrue};
 ghost use Rattle.ibos_pool.specs.declared.name.Ring.TheVariants.{Receive, Transmit};
 ghost use Rattle.ibos_pool.specs.Memory.{IsKept, IsMarked};
-ghost use Rattle.ibos_pool.specs.Names.{IsLoanOf, Names};
+ghost use Rattle.ibos_pool.specs.Names.{IsClaimed, IsLoanOf, Names};
 ghost use Rattle.ibos_nic.specs.declared.limits.TheConstants.{MOST_FRAME};
 ghost use Rattle.ibos_nic.specs.Registers.{Registers};
+ghost use Rattle.ibos_mediate.specs.Closing.{AreOutbound};
+ghost use Rattle.ibos_mediate.specs.Posts.{AreUnheld};
 ghost use Rattle.ibos_mediate.specs.Relation.{IsAtDevice, IsInMemory, IsInPool, completed, held_for, told_length};
-ghost use Rattle.ibos_mediate.specs.Rules.{after_receive, after_take, with_turn};
+ghost use Rattle.ibos_mediate.specs.Rules.{after_receive, after_take, is_in_ring, with_turn};
 
 use crate::descriptors::{read_receive, read_transmit};
 use crate::mediator::Mediator;
@@ -68,6 +70,12 @@ impl Mediator {
         ensures kept { IfSome result (λ r. IsKept mem.new r.1.place) }
         ensures marked { IfSome result (λ r. IsMarked mem.old mem.new r.1.place false) }
         ensures is_pools { IfSome result (λ r. IsLoanOf pool.new r.1) }
+        ensures outside { IfSome result (λ r. is_in_ring self.new.receive.held r.1.name ≡ false) }
+
+        // Once the pool has the name back, no one holds a receive buffer that is not in the ring.
+        ensures unheld { AreUnheld self.old pool.old mem.old → IfSome result (λ r. (names : Names)
+            → IsClaimed pool.new names r.1.name false → AreUnheld self.new names mem.new) }
+        ensures given { IfSome result (λ r. (names : Names) → IsClaimed pool.new names r.1.name false → IsInPool self.new names) }
         ensures same { IfNone result (self.new ≡ self.old) }
         ensures same_memory { IfNone result (mem.new ≡ mem.old) }
         ensures same_pool { pool.new ≡ pool.old }
@@ -96,6 +104,15 @@ impl Mediator {
         ensures same_memory { IfNone result (mem.new ≡ mem.old) }
         ensures memory { IsInMemory self.new mem.new }
         ensures pool { (names : Names) → IsInPool self.old names → IsInPool self.new names }
+        ensures is_pools { IfSome result (λ loan. (names : Names) → AreOutbound self.old names → IsLoanOf names loan) }
+        ensures unheld { (names : Names) → AreUnheld self.old names mem.old → AreUnheld self.new names mem.new }
+        ensures outbound { (names : Names) → AreOutbound self.old names → AreOutbound self.new names }
+
+        // The same once the pool has the name back.
+        ensures given_outbound { IfSome result (λ loan. (names names' : Names) → AreOutbound self.old names
+            → IsClaimed names names' loan.name false → AreOutbound self.new names') }
+        ensures given_pool { IfSome result (λ loan. (names names' : Names) → IsInPool self.old names → AreOutbound self.old names
+            → IsClaimed names names' loan.name false → IsInPool self.new names') }
         ensures device { (regs : Registers) → IsAtDevice self.old mem.old regs → IsAtDevice self.new mem.new regs }
     {
         if !self.is_sent(mem) {

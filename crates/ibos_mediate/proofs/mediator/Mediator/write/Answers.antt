@@ -1,9 +1,11 @@
-use Rattle.std.proofs.Common.{sym, ◌∙◌, subst, ap}
+use Rattle.std.proofs.Common.{◌≡◌, sym, ◌∙◌, subst, ap}
 use Rattle.ibos_pool.specs.Names.{Names}
 use Rattle.ibos_mediate.specs.Mediated.{Mediated}
 use Rattle.ibos_mediate.specs.Relation.{IsAtDevice, IsInMemory, IsInPool}
 use Rattle.ibos_mediate.proofs.DeviceLemmas.{device-written}
 use Rattle.ibos_mediate.proofs.RuleLemmas.{may_from_rule}
+use Rattle.ibos_mediate.specs.Writes.{AreKept}
+use Rattle.ibos_mediate.proofs.UnheldLemmas.{receive-kept, transmit-kept, turns-kept}
 use Rattle.ibos_mediate.proofs.WriteLemmas.{may_write, memory-written, pool-written}
 use Rattle.ibos_mediate.proofs.mediator.Mediator.write.Goals as goal
 
@@ -31,3 +33,17 @@ pub returns-clause-pool : goal.returns-clause-pool
 returns-clause-pool g c = λ names old.
     let P : Mediated → Type 0 = λ m. IsInPool m names in
     subst P (sym c.keep.ensures) (pool-written c.args.self.now names c.in-Some.reg c.args.value old)
+
+pub returns-clause-receive : goal.returns-clause-receive
+returns-clause-receive g c =
+    let P : Mediated → Type 0 = λ m. AreKept c.args.self.now.receive m.receive in
+    subst P (sym c.keep.ensures) (receive-kept c.args.self.now c.in-Some.reg c.args.value)
+
+pub returns-clause-transmit : goal.returns-clause-transmit
+returns-clause-transmit g c =
+    let P : Mediated → Type 0 = λ m. AreKept c.args.self.now.transmit m.transmit in
+    subst P (sym c.keep.ensures) (transmit-kept c.args.self.now c.in-Some.reg c.args.value)
+
+pub returns-clause-turns : goal.returns-clause-turns
+returns-clause-turns g c =
+    ap (λ (m : Mediated). m.turns) c.keep.ensures ∙ turns-kept c.args.self.now c.in-Some.reg c.args.value
