@@ -12,7 +12,7 @@ pub mod PostedLemmas
 pub mod TakenLemmas
 pub mod PoolLemmas
 pub mod CallLemmas
-pub mod PutLemmas
+pub mod BothLemmas
 pub mod OtherLemmas
 pub mod CloseLemmas
 pub mod AwayLemmas

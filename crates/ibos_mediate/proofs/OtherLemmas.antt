@@ -1,24 +1,22 @@
 -- How the relation begins, and what else keeps it.
-use Rattle.std.proofs.Common.{◌≡◌, ◌≢◌, ℕ, ◌+◌, ◌-◌, ◌%◌, ◌<◌, ◌≤◌, ◌⊎◌, List, [], Bool, true, false, cond, length, refl, sym, ◌∙◌, ap, inl, inr, subst, arith}
-use Rattle.std.specs.Prelude.{IsFalse, IsTrue}
+use Rattle.std.proofs.Common.{◌≡◌, ◌≢◌, ℕ, ◌+◌, ◌<◌, ◌≤◌, ◌⊎◌, List, Bool, true, false, cond, length, refl, sym, ◌∙◌, ap, inl, inr, subst, arith}
 use Rattle.ibos_pool.specs.declared.name.Name.{Name}
 use Rattle.ibos_pool.specs.declared.name.Ring.{Ring}
 use Rattle.ibos_pool.specs.declared.name.Ring.TheVariants.{Receive, Transmit}
 use Rattle.ibos_pool.specs.declared.place.Place.{Place}
-use Rattle.ibos_pool.specs.declared.limits.TheConstants.{BUFFER_BYTES, DESCRIPTOR_BYTES, MOST_AREAS, RING_BYTES, RING_SLOTS}
-use Rattle.ibos_pool.specs.Memory.{IsKept, IsLent, IsWritten, Memory, bytes_at, is_lent_at, slot_at}
-use Rattle.ibos_pool.specs.Names.{Held, IsClaimed, IsLoanOf, IsNameIn, Names, is_taken, place_of, same_name}
+use Rattle.ibos_pool.specs.declared.limits.TheConstants.{DESCRIPTOR_BYTES, MOST_AREAS, RING_BYTES, RING_SLOTS}
+use Rattle.ibos_pool.specs.Memory.{IsKept, IsLent, IsWritten, Memory, is_lent_at, slot_at}
+use Rattle.ibos_pool.specs.Names.{Held, IsClaimed, IsLoanOf, Names, is_taken, place_of, same_name}
 use Rattle.ibos_pool.specs.Places.{IsPlaceIn, address_of, ring_base}
 use Rattle.ibos_nic.specs.declared.reg.Reg.{Reg}
 use Rattle.ibos_nic.specs.declared.reg.Reg.TheVariants.{Rctl, Tctl, Rdbal, Rdbah, Rdlen, Rdh, Rdt, Tdbal, Tdbah, Tdlen, Tdh, Tdt, Ral0, Rah0}
 use Rattle.ibos_nic.specs.Registers.{Registers, after_write, reset}
-use Rattle.ibos_mediate.specs.Mediated.{IsBalanced, Mediated, RingView}
-use Rattle.ibos_mediate.specs.Relation.{AreApart, IsAtDevice, IsInMemory, IsInPool, IsOpen, IsRingAtDevice, IsRingInMemory, completed, descriptor_at, held_for, is_done, place_for, ring_of, slot_of}
+use Rattle.ibos_mediate.specs.Mediated.{Mediated, RingView}
+use Rattle.ibos_mediate.specs.Relation.{IsAtDevice, IsInMemory, IsInPool, IsOpen, IsRingAtDevice, IsRingInMemory, completed, held_for, is_done, ring_of, slot_of}
 use Rattle.ibos_mediate.specs.States.{no_ring}
 use Rattle.ibos_mediate.proofs.FirstLemmas.{first_not-none}
-use Rattle.ibos_mediate.proofs.ArriveLemmas.{device-same}
 use Rattle.ibos_mediate.proofs.DeviceLemmas.{receive-stays, transmit-stays}
-use Rattle.ibos_mediate.proofs.PutLemmas.{at_device-from, in_memory-from, ring_at, ring_at-same, ring_in}
+use Rattle.ibos_mediate.proofs.BothLemmas.{at_device-from, in_memory-from, ring_at, ring_at-same, ring_in}
 use Rattle.ibos_mediate.proofs.StepLemmas.{completed-stays, descriptor_of, lent-same, ring-stays}
 
 completed-none : (ring : Ring) (mem : Memory) → completed ring mem no_ring ≡ 0

@@ -1,5 +1,5 @@
 -- What posts and takes make of the frames in the buffers.
-use Rattle.std.proofs.Common.{◌≡◌, ◌≢◌, ℕ, suc, ◌+◌, ◌-◌, ◌<◌, ◌≤◌, ◌⊎◌, List, [], ◌∷◌, ◌++◌, Bool, true, false, length, take, refl, sym, ◌∙◌, ap, inl, inr, ⊎_elim, subst, arith}
+use Rattle.std.proofs.Common.{◌≡◌, ◌≢◌, ℕ, suc, ◌+◌, ◌-◌, ◌<◌, ◌≤◌, List, [], ◌∷◌, ◌++◌, length, take, refl, sym, ◌∙◌, ap, inr, subst, arith}
 use Rattle.ibos_pool.specs.declared.name.Ring.{Ring}
 use Rattle.ibos_pool.specs.declared.name.Ring.TheVariants.{Receive, Transmit}
 use Rattle.ibos_pool.specs.declared.place.Place.{Place}
@@ -7,7 +7,6 @@ use Rattle.ibos_pool.specs.declared.limits.TheConstants.{BUFFER_BYTES, DESCRIPTO
 use Rattle.ibos_pool.specs.Memory.{IsKept, IsLent, Memory, buffer_at, bytes_at}
 use Rattle.ibos_pool.specs.Names.{Held}
 use Rattle.ibos_pool.specs.Places.{IsPlaceIn, address_of, ring_base}
-use Rattle.ibos_nic.specs.declared.limits.TheConstants.{MOST_FRAME}
 use Rattle.ibos_nic.specs.declared.reg.Reg.{Reg}
 use Rattle.ibos_nic.specs.declared.reg.Reg.TheVariants.{Rctl, Tctl, Rdbal, Rdlen, Rdt, Tdbal, Tdlen, Tdt}
 use Rattle.ibos_nic.specs.Registers.{ring_size}
@@ -19,8 +18,8 @@ use Rattle.ibos_mediate.specs.Rules.{after_take, with_post}
 use Rattle.ibos_mediate.specs.Writes.{after_writing}
 use Rattle.ibos_mediate.proofs.FrameLemmas.{bytes_from-first, bytes_from-last, bytes_from-same, received-stays, unsent-stays}
 use Rattle.ibos_mediate.proofs.PostLemmas.{completed-posted, held-before, held-new, length-before, length-new}
-use Rattle.ibos_mediate.proofs.PutLemmas.{ring_in}
-use Rattle.ibos_mediate.proofs.RingLemmas.{completed-high, completed-low}
+use Rattle.ibos_mediate.proofs.BothLemmas.{ring_in}
+use Rattle.ibos_mediate.proofs.RingLemmas.{completed-low}
 use Rattle.ibos_mediate.proofs.StepLemmas.{descriptor_of, descriptors_apart, rings_apart, told-same}
 use Rattle.ibos_mediate.proofs.TakeLemmas.{completed-taken, held-after, length-after}
 

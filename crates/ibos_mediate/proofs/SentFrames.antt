@@ -1,7 +1,7 @@
 -- A frame that is sent is the first of those unsent.
-use Rattle.std.proofs.Common.{◌≡◌, ◌≢◌, ℕ, suc, ◌+◌, ◌-◌, ◌<◌, ◌≤◌, ◌⊎◌, List, [], ◌∷◌, Bool, true, false, length, refl, sym, ◌∙◌, ap, inl, inr, subst, arith}
+use Rattle.std.proofs.Common.{◌≡◌, ℕ, suc, ◌+◌, ◌-◌, ◌<◌, ◌≤◌, ◌∷◌, length, sym, ◌∙◌, ap, inr, arith}
 use Rattle.ibos_pool.specs.declared.name.Ring.{Ring}
-use Rattle.ibos_pool.specs.declared.name.Ring.TheVariants.{Receive, Transmit}
+use Rattle.ibos_pool.specs.declared.name.Ring.TheVariants.{Transmit}
 use Rattle.ibos_pool.specs.declared.place.Place.{Place}
 use Rattle.ibos_pool.specs.declared.limits.TheConstants.{BUFFER_BYTES, DESCRIPTOR_BYTES, RING_BYTES}
 use Rattle.ibos_pool.specs.Memory.{IsLent, Memory, bytes_at}
@@ -10,12 +10,12 @@ use Rattle.ibos_nic.specs.declared.descriptor.TxDesc.{TxDesc}
 use Rattle.ibos_nic.specs.Descriptors.{FitsTx, tx_bytes, tx_of}
 use Rattle.ibos_nic.specs.Device.{IsTransmitted, frame_at, transmitted, tx_at}
 use Rattle.ibos_mediate.specs.Frames.{bytes_from, outgoing_bytes, received_frames, unsent_frames}
-use Rattle.ibos_mediate.specs.Mediated.{Mediated, RingView}
-use Rattle.ibos_mediate.specs.Relation.{IsInMemory, IsOpen, completed, descriptor_at, length_for, place_for, posted_tx}
+use Rattle.ibos_mediate.specs.Mediated.{Mediated}
+use Rattle.ibos_mediate.specs.Relation.{IsInMemory, IsOpen, completed, descriptor_at}
 use Rattle.ibos_mediate.proofs.FrameLemmas.{bytes_from-first, bytes_from-same, received-stays}
 use Rattle.ibos_mediate.proofs.RingLemmas.{completed-low}
 use Rattle.ibos_mediate.proofs.StepLemmas.{completed-goes_on}
-use Rattle.ibos_mediate.proofs.TransmitLemmas.{done, is_open, stay-receive, stay-transmit, was}
+use Rattle.ibos_mediate.proofs.TransmitLemmas.{done, stay-receive, stay-transmit, was}
 
 module _ (tx_back : (d : TxDesc) → FitsTx d → tx_of (tx_bytes d) ≡ d) (tx_length : (d : TxDesc) → length (tx_bytes d) ≡ DESCRIPTOR_BYTES)
     (behind : (areas : ℕ) (ring : Ring) (p : Place) → IsPlaceIn areas p → ring_base ring + RING_BYTES ≤ address_of p)

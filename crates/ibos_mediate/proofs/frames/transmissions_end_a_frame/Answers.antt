@@ -1,4 +1,4 @@
-use Rattle.std.proofs.Common.{List, ℕ, ◌∷◌, ◌≡◌, ◌∙◌, ap}
+use Rattle.std.proofs.Common.{◌∷◌, ◌∙◌, ap}
 use Rattle.ibos_pool.specs.declared.name.Ring.TheVariants.{Transmit}
 use Rattle.ibos_nic.specs.Device.{frame_at}
 use Rattle.ibos_mediate.specs.Frames.{unsent_frames}
