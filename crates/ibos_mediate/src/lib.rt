@@ -26,3 +26,6 @@ pub use laws::{
 };
 pub use limits::{CAUSE_BITS, RECEIVE_CONTROL, TRANSMIT_COMMAND, TRANSMIT_CONTROL, TRANSMIT_FIXED};
 pub use mediator::Mediator;
+
+#[cfg(test)]
+mod tests;
