@@ -299,3 +299,46 @@ unheld-claimed m names names' mem name unheld instance claimed index within outs
       free = claimed.taken_names (receive_name index) ∙ ap (λ b. cond b true (is_taken names (receive_name index))) differ ∙ was.free;
       kept = rw (claimed.places (receive_name index)) (record { place = kept.place; kept = kept.kept });
     }
+
+-- the buffer of the oldest receive descriptor is given back
+pub outbound-received : (m : Mediated) (r : RingView) (turns : List ℕ) (mem : Memory) (names names' : Names) → IsInMemory m mem → IsInPool m names → AreOutbound m names
+    → m.receive.taken < m.receive.posted → IsClaimed names names' (held_for m.receive m.receive.taken).name false
+    → AreOutbound (record { receive = r; transmit = m.transmit; turns = turns }) names'
+outbound-received m r turns mem names names' memory in_pool outbound some claimed number is_open =
+    let first : IsOpen m.receive m.receive.taken = (omega arith, some) in
+    loan-left names names' _ _ claimed
+    (⊎_elim
+    (λ (same : same_name (held_for m.transmit number).name (held_for m.receive m.receive.taken).name ≡ true).
+    let both = names_apart m mem names Transmit Receive number m.receive.taken memory is_open first (outbound number is_open) (in_pool.loans m.receive.taken first) (same_name_from_test _ _ same) in
+    absurd (let clash : Transmit ≡ Receive = both.0 in cc))
+    (λ (differ : same_name (held_for m.transmit number).name (held_for m.receive m.receive.taken).name ≡ false). differ)
+    (bool_cases (same_name (held_for m.transmit number).name (held_for m.receive m.receive.taken).name)))
+    (outbound number is_open)
+
+-- rings whose descriptors are as they were
+pub unheld-kept : (m n : Mediated) (names : Names) (mem : Memory) → AreKept m.receive n.receive → AreUnheld m names mem → AreUnheld n names mem
+unheld-kept m n names mem kept unheld index within outside =
+    unheld index within (ap (λ xs. is_in_ring xs (receive_name index)) (sym kept.held) ∙ outside)
+
+pub outbound-kept : (m n : Mediated) (names : Names) → AreKept m.transmit n.transmit → AreOutbound m names → AreOutbound n names
+outbound-kept m n names kept outbound number is_open =
+    let was : IsOpen m.transmit number = (rw (← kept.taken) is_open.0, rw (← kept.posted) is_open.1) in
+    let same : held_for m.transmit number ≡ held_for n.transmit number =
+        ap (λ xs. slice_index_or xs (number - m.transmit.taken) no_buffer) (sym kept.held) ∙ ap (λ t. slice_index_or n.transmit.held (number - t) no_buffer) (sym kept.taken) in
+    let P : Held → Type 0 = λ h. IsLoanOf names h in
+    subst P same (outbound number was)
+
+-- a memory with the same lent marks
+pub record AreMarkedAlike (old new : Memory) : Type 0 where
+  pub lent : (p : Place) → is_lent_at new p ≡ is_lent_at old p
+  pub areas : length new ≡ length old
+
+pub unheld-alike : (m : Mediated) (names : Names) (old new : Memory) → AreMarkedAlike old new → AreUnheld m names old → AreUnheld m names new
+unheld-alike m names old new alike unheld index within outside =
+    let was = unheld index within outside in
+    let kept = was.kept in
+    let place = kept.place in
+    record {
+      free = was.free;
+      kept = record { place = rw alike.areas (record { area = place.area; index = place.index }); kept = alike.lent _ ∙ kept.kept };
+    }

@@ -72,10 +72,12 @@ impl Mediator {
         ensures is_pools { IfSome result (λ r. IsLoanOf pool.new r.1) }
         ensures outside { IfSome result (λ r. is_in_ring self.new.receive.held r.1.name ≡ false) }
 
-        // Once the pool has the name back, no one holds a receive buffer that is not in the ring.
+        // Once the pool has the name back, no one holds a receive buffer that is not in the ring, and the relation holds.
         ensures unheld { AreUnheld self.old pool.old mem.old → IfSome result (λ r. (names : Names)
             → IsClaimed pool.new names r.1.name false → AreUnheld self.new names mem.new) }
         ensures given { IfSome result (λ r. (names : Names) → IsClaimed pool.new names r.1.name false → IsInPool self.new names) }
+        ensures outbound { AreOutbound self.old pool.old → IfSome result (λ r. (names : Names)
+            → IsClaimed pool.new names r.1.name false → AreOutbound self.new names) }
         ensures same { IfNone result (self.new ≡ self.old) }
         ensures same_memory { IfNone result (mem.new ≡ mem.old) }
         ensures same_pool { pool.new ≡ pool.old }

@@ -5,8 +5,9 @@ use Rattle.ibos_mediate.specs.Relation.{IsAtDevice, IsInMemory, IsInPool, comple
 use Rattle.ibos_mediate.specs.Rules.{is_in_ring, with_turn}
 use Rattle.ibos_pool.specs.Memory.{IsMarked}
 use Rattle.ibos_pool.specs.Names.{Held, IsClaimed}
+use Rattle.ibos_mediate.specs.Closing.{AreOutbound}
 use Rattle.ibos_mediate.specs.Posts.{AreUnheld}
-use Rattle.ibos_mediate.proofs.UnheldLemmas.{pool-given, taken-outside, unheld-taken}
+use Rattle.ibos_mediate.proofs.UnheldLemmas.{outbound-received, pool-given, taken-outside, unheld-taken}
 use Rattle.ibos_mediate.proofs.CallLemmas.{rx_taken-device, rx_taken-memory, rx_taken-pool}
 use Rattle.ibos_mediate.proofs.mediator.Mediator.rx_take.Goals as goal
 
@@ -85,3 +86,22 @@ pub returns-clause-given : goal.returns-clause-given
 returns-clause-given c = λ names claimed.
     let memory = returns-clause-memory c in
     pool-given c.raise_turn-turn.new.self c.args.pool.now names _ memory.receive.balanced (returns-clause-pool c) (returns-clause-outside c) claimed
+
+pub returns-clause-outbound : goal.returns-clause-outbound
+returns-clause-outbound c = λ outbound names claimed.
+    let m0 : Mediated = record { receive = c.self.inside.receive; transmit = c.self.inside.transmit; turns = c.self.inside.turns } in
+    let PM : Mediated → Type 0 = λ m. IsInMemory m c.args.mem.now in
+    let PP : Mediated → Type 0 = λ m. IsInPool m c.args.pool.now in
+    let PC : Mediated → Type 0 = λ m. m.receive.taken < completed Receive c.args.mem.now m.receive in
+    let memory = subst PM (sym c.self.view_is) c.requires.memory in
+    let pool = subst PP (sym c.self.view_is) c.requires.pool in
+    let more = subst PC (sym c.self.view_is) c.in_ok-len.ensures.some in
+    let within = memory.receive.rung in
+    let order = memory.receive.balanced.posted in
+    let some : m0.receive.taken < m0.receive.posted = omega arith in
+    let is : c.regain-loan.result ≡ held_for m0.receive m0.receive.taken = c.regain-loan.ensures.same ∙ c.take-away.ensures.value in
+    let PO : Mediated → Type 0 = λ m. AreOutbound m c.args.pool.now in
+    let PN : Held → Type 0 = λ h. IsClaimed c.args.pool.now names h.name false in
+    let PA : Mediated → Type 0 = λ m. AreOutbound m names in
+    subst PA (sym c.raise_turn-turn.ensures.after)
+    (outbound-received m0 c.take-away.new.self (with_turn m0.turns c.name-index.result.index) c.args.mem.now c.args.pool.now names memory pool (subst PO (sym c.self.view_is) outbound) some (subst PN is claimed))
