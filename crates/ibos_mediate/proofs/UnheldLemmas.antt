@@ -324,7 +324,7 @@ pub outbound-kept : (m n : Mediated) (names : Names) → AreKept m.transmit n.tr
 outbound-kept m n names kept outbound number is_open =
     let was : IsOpen m.transmit number = (rw (← kept.taken) is_open.0, rw (← kept.posted) is_open.1) in
     let same : held_for m.transmit number ≡ held_for n.transmit number =
-        ap (λ xs. slice_index_or xs (number - m.transmit.taken) no_buffer) (sym kept.held) ∙ ap (λ t. slice_index_or n.transmit.held (number - t) no_buffer) (sym kept.taken) in
+    ap (λ xs. slice_index_or xs (number - m.transmit.taken) no_buffer) (sym kept.held) ∙ ap (λ t. slice_index_or n.transmit.held (number - t) no_buffer) (sym kept.taken) in
     let P : Held → Type 0 = λ h. IsLoanOf names h in
     subst P same (outbound number was)
 

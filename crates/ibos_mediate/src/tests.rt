@@ -60,8 +60,7 @@ impl Desk {
     }
 
     fn write(&mut self, offset: u32, value: u32) -> Result<(), Rule> {
-        self.mediator
-            .write(offset, value, &mut self.nic, &self.mem)
+        self.mediator.write(offset, value, &mut self.nic, &self.mem)
     }
 
     fn read(&mut self, offset: u32) -> Result<u32, Rule> {
@@ -97,9 +96,7 @@ impl Desk {
 
     fn transmit(&mut self, rt: &impl Abort, alloc: Global) -> bool {
         transmissions_keep_the_relation();
-        self.nic
-            .transmit(alloc, &mut self.mem)
-            .expect(rt, "memory")
+        self.nic.transmit(alloc, &mut self.mem).expect(rt, "memory")
     }
 
     // The handle and the length of the oldest frame that was heard, whose buffer is given to the pool.
@@ -236,7 +233,10 @@ fn the_receive_ring_fills_drains_and_wraps(rt: HostRuntime) -> Result<(), Fail> 
         assert!(rt; desk.take() == Some((handle, 57)));
     }
     assert!(rt; desk.take().is_none());
-    assert!(rt; desk.post(&rt, 63, 0, 0) == Err(Rule::M6), "the handle is stale");
+    assert!(rt;
+        desk.post(&rt, 63, 0, 0) == Err(Rule::M6),
+        "the handle is stale"
+    );
     assert!(rt; desk.post(&rt, 63, 0, 1) == Ok(()));
     assert!(rt; desk.write(0x2818, 0) == Ok(()));
     assert_eq!(rt; count_heard(&rt, rt.alloc(), &mut desk, 2), 1);
