@@ -1,18 +1,18 @@
 -- A frame that comes keeps the relation.
-use Rattle.std.proofs.Common.{◌≡◌, ◌≢◌, ℕ, ◌+◌, ◌-◌, ◌*◌, ◌%◌, ◌^◌, ◌<◌, ◌≤◌, ◌⊎◌, ◌==◌, ◌&&◌, List, ◌∷◌, Bool, true, false, not, cond, eqb, length, refl, sym, ◌∙◌, ap, inl, inr, ⊎_elim, subst, arith}
+use Rattle.std.proofs.Common.{◌≡◌, ◌≢◌, ℕ, ◌+◌, ◌^◌, ◌<◌, ◌≤◌, ◌==◌, ◌&&◌, List, ◌∷◌, Bool, true, false, not, cond, eqb, length, refl, sym, ◌∙◌, ap, inl, ⊎_elim, subst, arith}
 use Rattle.std.proofs.lemmas.Bool.Decides.{nat_tests}
 use Rattle.std.proofs.lemmas.Bool.{cases_eq}
-use Rattle.std.specs.Prelude.{IsFalse, IsTrue, Result, Ok, Err, IfOk}
+use Rattle.std.specs.Prelude.{IsTrue, Result, Ok, Err, IfOk}
 use Rattle.ibos_kinds.specs.declared.names.Verdict.{Verdict}
 use Rattle.ibos_kinds.specs.declared.names.Verdict.TheVariants.{Filtered, Missed, Heard}
 use Rattle.ibos_kinds.specs.declared.bytes.Memory.{Memory as NoMemory}
 use Rattle.ibos_pool.specs.declared.name.Ring.{Ring}
 use Rattle.ibos_pool.specs.declared.name.Ring.TheVariants.{Receive, Transmit}
 use Rattle.ibos_pool.specs.declared.place.Place.{Place}
-use Rattle.ibos_pool.specs.declared.limits.TheConstants.{BUFFER_BYTES, DESCRIPTOR_BYTES, MOST_AREAS, RING_BYTES}
-use Rattle.ibos_pool.specs.Memory.{IsLent, Memory, bytes_at, is_lent_at}
-use Rattle.ibos_pool.specs.Places.{IsApart, IsPlaceIn, address_of, buffers_of, first_of, ring_base}
-use Rattle.ibos_nic.specs.declared.limits.TheConstants.{DONE, MOST_FRAME}
+use Rattle.ibos_pool.specs.declared.limits.TheConstants.{DESCRIPTOR_BYTES, MOST_AREAS, RING_BYTES}
+use Rattle.ibos_pool.specs.Memory.{IsLent, Memory}
+use Rattle.ibos_pool.specs.Places.{IsApart, IsPlaceIn, address_of, ring_base}
+use Rattle.ibos_nic.specs.declared.limits.TheConstants.{MOST_FRAME}
 use Rattle.ibos_nic.specs.declared.log.LogEntry.{LogEntry}
 use Rattle.ibos_nic.specs.declared.log.LogEntry.TheVariants.{In}
 use Rattle.ibos_nic.specs.declared.reg.Reg.{Reg}
@@ -20,9 +20,9 @@ use Rattle.ibos_nic.specs.declared.reg.Reg.TheVariants.{Icr, Rctl, Tctl, Rdbal, 
 use Rattle.ibos_nic.specs.declared.descriptor.RxDesc.{RxDesc}
 use Rattle.ibos_nic.specs.Descriptors.{FitsRx, rx_bytes, rx_of}
 use Rattle.ibos_nic.specs.Device.{IsReceived, MayReceive, OnHeard, OnUnheard, after_arrive, is_for_us, received, rx_at, verdict_of}
-use Rattle.ibos_nic.specs.Registers.{Registers, after_missed, can_receive, is_enabled, next_slot, receive_head, ring_size, same_reg}
-use Rattle.ibos_mediate.specs.Mediated.{IsBalanced, Mediated, RingView}
-use Rattle.ibos_mediate.specs.Relation.{IsAtDevice, IsConfigured, IsInMemory, IsOpen, IsRingAtDevice, IsRingInMemory, address_in, completed, descriptor_at, is_done, place_for, slot_of, told_length}
+use Rattle.ibos_nic.specs.Registers.{Registers, after_missed, can_receive, is_enabled, next_slot, receive_head, same_reg}
+use Rattle.ibos_mediate.specs.Mediated.{Mediated, RingView}
+use Rattle.ibos_mediate.specs.Relation.{IsAtDevice, IsInMemory, IsOpen, IsRingInMemory, completed, descriptor_at, is_done, place_for, slot_of}
 use Rattle.ibos_mediate.proofs.RingLemmas.{completed-low}
 use Rattle.ibos_mediate.proofs.WriteLemmas.{found_at, may_receive}
 use Rattle.ibos_mediate.proofs.DeviceLemmas.{receive-stays, transmit-stays}

@@ -1,19 +1,17 @@
 -- The buffers of both rings, as one list.
-use Rattle.std.proofs.Common.{◌≡◌, ◌≢◌, ℕ, zero, suc, ◌+◌, ◌-◌, ◌<◌, ◌≤◌, ◌⊎◌, ◌||◌, List, [], ◌∷◌, ◌++◌, Bool, true, false, cond, length, get_or, refl, sym, ◌∙◌, ap, inl, inr, ⊎_elim, subst, arith}
-use Rattle.std.proofs.lemmas.Bool.{cases_eq, cases_lt}
+use Rattle.std.proofs.Common.{◌≡◌, ◌≢◌, ℕ, suc, ◌+◌, ◌-◌, ◌<◌, ◌≤◌, ◌||◌, List, [], ◌∷◌, ◌++◌, Bool, true, false, length, get_or, refl, sym, ◌∙◌, ap, ⊎_elim, arith}
+use Rattle.std.proofs.lemmas.Bool.{cases_lt}
 use Rattle.std.proofs.lemmas.List.{get_or_append_left, get_or-append-add, length-append}
-use Rattle.std.specs.Prelude.{IsFalse, IsTrue}
-use Rattle.ibos_pool.specs.declared.name.Name.{Name}
+use Rattle.std.specs.Prelude.{IsFalse}
 use Rattle.ibos_pool.specs.declared.name.Ring.{Ring}
 use Rattle.ibos_pool.specs.declared.name.Ring.TheVariants.{Receive, Transmit}
 use Rattle.ibos_pool.specs.declared.place.Place.{Place}
-use Rattle.ibos_pool.specs.Memory.{IsLent, Memory, bytes_at, is_lent_at}
-use Rattle.ibos_pool.specs.Names.{Held, IsLoanOf, Names, is_taken, place_of, same_name}
+use Rattle.ibos_pool.specs.Memory.{IsLent, Memory}
+use Rattle.ibos_pool.specs.Names.{Held, IsLoanOf, Names}
 use Rattle.ibos_pool.specs.Places.{same_place}
-use Rattle.ibos_mediate.specs.Closing.{AreAway, AreGiven, AreOutbound, has_place}
-use Rattle.ibos_mediate.specs.Rules.{is_in_ring}
-use Rattle.ibos_mediate.specs.Mediated.{IsBalanced, Mediated, RingView}
-use Rattle.ibos_mediate.specs.Relation.{AreApart, IsInMemory, IsInPool, IsOpen, held_for, no_buffer, place_for, ring_of}
+use Rattle.ibos_mediate.specs.Closing.{AreAway, AreOutbound, has_place}
+use Rattle.ibos_mediate.specs.Mediated.{Mediated}
+use Rattle.ibos_mediate.specs.Relation.{IsInMemory, IsInPool, IsOpen, held_for, no_buffer, place_for, ring_of}
 
 abbrev buffer_in : List Held → ℕ → Held
 buffer_in held k = get_or held k no_buffer

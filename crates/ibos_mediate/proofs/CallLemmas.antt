@@ -1,8 +1,8 @@
 -- What the calls that post and take back leave, from the clauses of what they call.
-use Rattle.std.proofs.Common.{◌≡◌, ◌≢◌, ℕ, zero, suc, ◌+◌, ◌-◌, ◌%◌, ◌<◌, ◌≤◌, ◌⊎◌, ◌==◌, ◌&&◌, List, [], ◌∷◌, Bool, true, false, not, Option, None, Some, length, cond, refl, sym, ◌∙◌, ap, inl, inr, ⊎_elim, subst, arith}
+use Rattle.std.proofs.Common.{◌≡◌, ◌≢◌, ℕ, ◌+◌, ◌-◌, ◌%◌, ◌<◌, ◌≤◌, ◌==◌, ◌&&◌, List, Bool, true, false, not, Option, None, Some, length, cond, refl, sym, ◌∙◌, ap, subst, arith}
 use Rattle.std.proofs.lemmas.Bool.Decides.{nat_tests}
 use Rattle.std.specs.Option.{option_or}
-use Rattle.std.specs.Prelude.{IsFalse, IsTrue}
+use Rattle.std.specs.Prelude.{IsTrue}
 use Rattle.ibos_kinds.specs.declared.names.Handle.{Handle}
 use Rattle.ibos_kinds.specs.declared.rule.Rule.{Rule}
 use Rattle.ibos_kinds.specs.declared.rule.Rule.TheVariants.{M5, M6, M7, M8}
@@ -11,11 +11,9 @@ use Rattle.ibos_pool.specs.declared.name.Ring.{Ring}
 use Rattle.ibos_pool.specs.declared.name.Ring.TheVariants.{Receive, Transmit}
 use Rattle.ibos_pool.specs.declared.place.Place.{Place}
 use Rattle.ibos_pool.specs.declared.limits.TheConstants.{BUFFER_BYTES, DESCRIPTOR_BYTES, RECEIVE_BUFFERS}
-use Rattle.ibos_pool.specs.Memory.{IsKept, IsLent, IsMarked, Memory, bytes_at}
+use Rattle.ibos_pool.specs.Memory.{IsKept, IsLent, IsMarked, Memory}
 use Rattle.ibos_pool.specs.Names.{Held, IsClaimed, IsLoanOf, IsOneToOne, Names, is_taken, place_of}
 use Rattle.ibos_pool.specs.Places.{address_of, slot_address}
-use Rattle.ibos_nic.specs.declared.descriptor.RxDesc.{RxDesc}
-use Rattle.ibos_nic.specs.declared.descriptor.TxDesc.{TxDesc}
 use Rattle.ibos_nic.specs.Descriptors.{rx_bytes, tx_bytes}
 use Rattle.ibos_nic.specs.Device.{rx_at, tx_at}
 use Rattle.ibos_nic.specs.Registers.{Registers, ring_size}

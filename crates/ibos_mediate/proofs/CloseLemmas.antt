@@ -1,16 +1,13 @@
 -- Buffers that rings hold are given back.
-use Rattle.std.proofs.Common.{◌≡◌, ◌≢◌, ℕ, zero, suc, ◌+◌, ◌-◌, ◌<◌, ◌≤◌, ◌⊎◌, ◌||◌, ◌==◌, List, [], ◌∷◌, ◌++◌, Bool, true, false, cond, drop, length, get_or, refl, sym, ◌∙◌, ap, inl, inr, ⊎_elim, subst, arith}
+use Rattle.std.proofs.Common.{◌≡◌, ℕ, ◌||◌, List, [], ◌∷◌, ◌++◌, Bool, true, false, cond, drop, length, refl, sym, ◌∙◌, ap, subst, arith}
 use Rattle.std.proofs.lemmas.Bool.Decides.{nat_tests}
-use Rattle.std.proofs.lemmas.Bool.{cases_eq, cases_lt}
-use Rattle.std.specs.Prelude.{IsFalse, IsTrue, Option, None, Some, slice_get, unwrap_or}
+use Rattle.std.specs.Prelude.{IsFalse, Option, None, Some, slice_get, unwrap_or}
 use Rattle.ibos_pool.specs.declared.name.Name.{Name}
-use Rattle.ibos_pool.specs.declared.name.Ring.{Ring}
-use Rattle.ibos_pool.specs.declared.name.Ring.TheVariants.{Receive, Transmit}
 use Rattle.ibos_pool.specs.declared.place.Place.{Place}
-use Rattle.ibos_pool.specs.Memory.{IsLent, IsMarked, Memory, bytes_at, is_lent_at}
+use Rattle.ibos_pool.specs.Memory.{IsMarked, Memory, bytes_at, is_lent_at}
 use Rattle.ibos_pool.specs.Names.{Held, IsClaimed, IsLoanOf, Names, is_taken, place_of, same_name}
 use Rattle.ibos_pool.specs.Places.{same_place}
-use Rattle.ibos_mediate.specs.Closing.{AreAway, AreGiven, AreOutbound, has_place}
+use Rattle.ibos_mediate.specs.Closing.{AreAway, AreGiven, has_place}
 use Rattle.ibos_mediate.specs.Rules.{is_in_ring}
 
 -- the tests of names and places go both ways

@@ -1,15 +1,14 @@
 -- What a write and a read leave of the registers of the rings.
-use Rattle.std.proofs.Common.{◌≡◌, ◌≢◌, ℕ, ◌+◌, ◌-◌, ◌*◌, ◌%◌, ◌^◌, ◌<◌, ◌≤◌, ◌⊎◌, ◌==◌, List, Bool, true, false, refl, sym, ◌∙◌, ap, inl, inr, ⊎_elim, subst, arith}
+use Rattle.std.proofs.Common.{◌≡◌, ℕ, ◌<◌, false, refl, sym, ◌∙◌, ap, arith}
 use Rattle.ibos_pool.specs.declared.name.Ring.{Ring}
 use Rattle.ibos_pool.specs.declared.name.Ring.TheVariants.{Receive, Transmit}
 use Rattle.ibos_pool.specs.Memory.{Memory}
 use Rattle.ibos_nic.specs.declared.reg.Reg.{Reg}
-use Rattle.ibos_nic.specs.declared.reg.Reg.TheVariants.{Ctrl, Status, Icr, Ims, Imc, Rctl, Tctl, Rdbal, Rdbah, Rdlen, Rdh, Rdt, Tdbal, Tdbah, Tdlen, Tdh, Tdt, Mpc, Ral0, Rah0}
-use Rattle.ibos_nic.specs.Device.{distance}
-use Rattle.ibos_nic.specs.Registers.{Registers, after_read, after_write, is_enabled, ring_size, same_reg}
-use Rattle.ibos_mediate.specs.Mediated.{IsBalanced, Mediated, RingView}
+use Rattle.ibos_nic.specs.declared.reg.Reg.TheVariants.{Icr, Ims, Imc, Rctl, Tctl, Rdbal, Rdbah, Rdlen, Rdh, Rdt, Tdbal, Tdbah, Tdlen, Tdh, Tdt, Mpc}
+use Rattle.ibos_nic.specs.Registers.{Registers, after_read, after_write, ring_size, same_reg}
+use Rattle.ibos_mediate.specs.Mediated.{Mediated, RingView}
 use Rattle.ibos_mediate.specs.Relation.{IsAtDevice, IsInMemory, IsRingAtDevice, IsRingInMemory, completed, slot_of}
-use Rattle.ibos_mediate.specs.Writes.{IsDisabled, MayRing, MayWrite, after_writing, rung_to}
+use Rattle.ibos_mediate.specs.Writes.{IsDisabled, MayWrite, after_writing, rung_to}
 
 -- a ring whose registers stay
 pub receive-stays : (mem : Memory) (regs new : Registers) (r : RingView) → IsRingAtDevice Receive mem regs r

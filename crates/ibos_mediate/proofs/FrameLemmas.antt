@@ -1,15 +1,13 @@
 -- Lists of frames.
-use Rattle.std.proofs.Common.{◌≡◌, ◌≢◌, ℕ, zero, suc, ◌+◌, ◌-◌, ◌<◌, ◌≤◌, ◌⊎◌, List, [], ◌∷◌, ◌++◌, length, refl, sym, ◌∙◌, ap, inl, inr, ⊎_elim, subst, arith}
-use Rattle.ibos_pool.specs.declared.name.Ring.{Ring}
+use Rattle.std.proofs.Common.{◌≡◌, ℕ, zero, suc, ◌+◌, ◌-◌, ◌<◌, ◌≤◌, List, [], ◌∷◌, ◌++◌, length, refl, ◌∙◌, ap, arith}
 use Rattle.ibos_pool.specs.declared.name.Ring.TheVariants.{Receive, Transmit}
 use Rattle.ibos_pool.specs.declared.place.Place.{Place}
 use Rattle.ibos_pool.specs.declared.limits.TheConstants.{BUFFER_BYTES}
 use Rattle.ibos_pool.specs.Memory.{IsLent, Memory, bytes_at}
 use Rattle.ibos_pool.specs.Places.{address_of}
-use Rattle.ibos_nic.specs.declared.limits.TheConstants.{MOST_FRAME}
 use Rattle.ibos_mediate.specs.Frames.{bytes_from, outgoing_bytes, received_bytes, received_frames, unsent_frames}
 use Rattle.ibos_mediate.specs.Mediated.{IsBalanced, Mediated, RingView}
-use Rattle.ibos_mediate.specs.Relation.{IsInMemory, IsOpen, IsRingInMemory, completed, length_for, place_for, ring_of, told_length}
+use Rattle.ibos_mediate.specs.Relation.{IsInMemory, IsOpen, IsRingInMemory, completed, place_for, told_length}
 use Rattle.ibos_mediate.proofs.RingLemmas.{completed-high, completed-low}
 use Rattle.ibos_mediate.proofs.StepLemmas.{completed-stays, descriptor_of, told-same}
 

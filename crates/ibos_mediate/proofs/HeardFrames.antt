@@ -1,17 +1,16 @@
 -- A frame that is heard is the last of those received.
-use Rattle.std.proofs.Common.{◌≡◌, ◌≢◌, ℕ, ◌+◌, ◌-◌, ◌<◌, ◌≤◌, ◌⊎◌, List, [], ◌∷◌, ◌++◌, Bool, true, false, length, refl, sym, ◌∙◌, ap, inl, inr, ⊎_elim, subst, arith}
+use Rattle.std.proofs.Common.{◌≡◌, ◌≢◌, ℕ, ◌+◌, ◌-◌, ◌<◌, ◌≤◌, ◌⊎◌, List, [], ◌∷◌, ◌++◌, length, ◌∙◌, ap, inl, inr, ⊎_elim, subst, arith}
 use Rattle.ibos_pool.specs.declared.name.Ring.{Ring}
 use Rattle.ibos_pool.specs.declared.name.Ring.TheVariants.{Receive, Transmit}
 use Rattle.ibos_pool.specs.declared.place.Place.{Place}
-use Rattle.ibos_pool.specs.declared.limits.TheConstants.{BUFFER_BYTES, DESCRIPTOR_BYTES, RING_BYTES}
+use Rattle.ibos_pool.specs.declared.limits.TheConstants.{BUFFER_BYTES, RING_BYTES}
 use Rattle.ibos_pool.specs.Memory.{Memory, bytes_at}
 use Rattle.ibos_pool.specs.Places.{IsApart, IsPlaceIn, address_of, ring_base}
 use Rattle.ibos_nic.specs.declared.descriptor.RxDesc.{RxDesc}
-use Rattle.ibos_nic.specs.declared.limits.TheConstants.{MOST_FRAME}
 use Rattle.ibos_nic.specs.Descriptors.{FitsRx, rx_bytes, rx_of}
 use Rattle.ibos_nic.specs.Device.{IsReceived, rx_at}
-use Rattle.ibos_mediate.specs.Frames.{bytes_from, outgoing_bytes, received_bytes, received_frames, unsent_frames}
-use Rattle.ibos_mediate.specs.Mediated.{Mediated, RingView}
+use Rattle.ibos_mediate.specs.Frames.{bytes_from, received_bytes, received_frames, unsent_frames}
+use Rattle.ibos_mediate.specs.Mediated.{Mediated}
 use Rattle.ibos_mediate.specs.Relation.{IsInMemory, IsOpen, completed, descriptor_at, place_for, told_length}
 use Rattle.ibos_mediate.proofs.ArriveLemmas.{became, done, is_open, stay-receive, stay-transmit}
 use Rattle.ibos_mediate.proofs.FrameLemmas.{bytes_from-last, bytes_from-same, received_bytes-same, unsent-same}

@@ -12,10 +12,12 @@ pub mod PostedLemmas
 pub mod TakenLemmas
 pub mod PoolLemmas
 pub mod CallLemmas
-pub mod PutLemmas
+pub mod BothLemmas
 pub mod OtherLemmas
 pub mod CloseLemmas
 pub mod AwayLemmas
 pub mod UnheldLemmas
 pub mod FrameLemmas
 pub mod HeardFrames
+pub mod SentFrames
+pub mod QueueLemmas

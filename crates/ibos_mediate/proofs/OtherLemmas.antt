@@ -1,24 +1,32 @@
 -- How the relation begins, and what else keeps it.
-use Rattle.std.proofs.Common.{◌≡◌, ◌≢◌, ℕ, ◌+◌, ◌-◌, ◌%◌, ◌<◌, ◌≤◌, ◌⊎◌, List, [], Bool, true, false, cond, length, refl, sym, ◌∙◌, ap, inl, inr, subst, arith}
-use Rattle.std.specs.Prelude.{IsFalse, IsTrue}
+use Rattle.std.proofs.Common.{◌≡◌, ◌≢◌, ℕ, ◌+◌, ◌<◌, ◌≤◌, ◌⊎◌, List, Bool, true, false, cond, length, refl, sym, ◌∙◌, ap, inl, inr, subst, arith}
 use Rattle.ibos_pool.specs.declared.name.Name.{Name}
 use Rattle.ibos_pool.specs.declared.name.Ring.{Ring}
 use Rattle.ibos_pool.specs.declared.name.Ring.TheVariants.{Receive, Transmit}
 use Rattle.ibos_pool.specs.declared.place.Place.{Place}
-use Rattle.ibos_pool.specs.declared.limits.TheConstants.{BUFFER_BYTES, DESCRIPTOR_BYTES, MOST_AREAS, RING_BYTES, RING_SLOTS}
-use Rattle.ibos_pool.specs.Memory.{IsKept, IsLent, IsWritten, Memory, bytes_at, is_lent_at, slot_at}
-use Rattle.ibos_pool.specs.Names.{Held, IsClaimed, IsLoanOf, IsNameIn, Names, is_taken, place_of, same_name}
+use Rattle.ibos_pool.specs.declared.limits.TheConstants.{DESCRIPTOR_BYTES, MOST_AREAS, RING_BYTES, RING_SLOTS}
+use Rattle.ibos_pool.specs.Memory.{IsKept, IsLent, IsWritten, Memory, is_lent_at, slot_at}
+use Rattle.ibos_pool.specs.Names.{Held, IsNameIn, IsOneToOne, IsClaimed, IsLoanOf, Names, is_taken, place_of, same_name}
 use Rattle.ibos_pool.specs.Places.{IsPlaceIn, address_of, ring_base}
 use Rattle.ibos_nic.specs.declared.reg.Reg.{Reg}
 use Rattle.ibos_nic.specs.declared.reg.Reg.TheVariants.{Rctl, Tctl, Rdbal, Rdbah, Rdlen, Rdh, Rdt, Tdbal, Tdbah, Tdlen, Tdh, Tdt, Ral0, Rah0}
-use Rattle.ibos_nic.specs.Registers.{Registers, after_write, reset}
-use Rattle.ibos_mediate.specs.Mediated.{IsBalanced, Mediated, RingView}
-use Rattle.ibos_mediate.specs.Relation.{AreApart, IsAtDevice, IsInMemory, IsInPool, IsOpen, IsRingAtDevice, IsRingInMemory, completed, descriptor_at, held_for, is_done, place_for, ring_of, slot_of}
+use Rattle.ibos_nic.specs.Registers.{Registers, after_write, receive_head, reset, transmit_head}
+use Rattle.std.specs.Prelude.{◌∷◌, Result, Ok, Err}
+use Rattle.ibos_kinds.specs.declared.names.Verdict.{Verdict}
+use Rattle.ibos_kinds.specs.declared.names.Verdict.TheVariants.{Filtered, Missed, Heard}
+use Rattle.ibos_kinds.specs.declared.bytes.Memory.{Memory as NoMemory}
+use Rattle.ibos_nic.specs.declared.log.LogEntry.{LogEntry}
+use Rattle.ibos_nic.specs.declared.log.LogEntry.TheVariants.{In}
+use Rattle.ibos_nic.specs.Device.{IsReceived, IsTransmitted, OnHeard, OnSent, OnUnheard, OnUnsent}
+use Rattle.ibos_mediate.specs.Closing.{AreOutbound}
+use Rattle.ibos_mediate.specs.Posts.{AreUnheld}
+use Rattle.ibos_mediate.specs.Rules.{receive_name}
+use Rattle.ibos_mediate.specs.Mediated.{Mediated, RingView}
+use Rattle.ibos_mediate.specs.Relation.{IsAtDevice, IsInMemory, IsInPool, IsOpen, IsRingAtDevice, IsRingInMemory, completed, held_for, is_done, ring_of, slot_of}
 use Rattle.ibos_mediate.specs.States.{no_ring}
 use Rattle.ibos_mediate.proofs.FirstLemmas.{first_not-none}
-use Rattle.ibos_mediate.proofs.ArriveLemmas.{device-same}
 use Rattle.ibos_mediate.proofs.DeviceLemmas.{receive-stays, transmit-stays}
-use Rattle.ibos_mediate.proofs.PutLemmas.{at_device-from, in_memory-from, ring_at, ring_at-same, ring_in}
+use Rattle.ibos_mediate.proofs.BothLemmas.{at_device-from, in_memory-from, ring_at, ring_at-same, ring_in}
 use Rattle.ibos_mediate.proofs.StepLemmas.{completed-stays, descriptor_of, lent-same, ring-stays}
 
 completed-none : (ring : Ring) (mem : Memory) → completed ring mem no_ring ≡ 0
@@ -174,3 +182,42 @@ pub memory-buffer : (behind : (areas : ℕ) (ring : Ring) (p : Place) → IsPlac
 memory-buffer behind m mem new p bytes in_memory kept wrote =
     memory-else m mem new in_memory (slots-buffer behind mem new p bytes kept wrote) (rw wrote.areas in_memory.areas)
     (λ q. lent-same mem new q (wrote.lent q) wrote.areas)
+
+-- the receive buffers that no one holds, where lent marks stay and areas may be added
+pub unheld-else : (m : Mediated) (names : Names) (mem new : Memory) → AreUnheld m names mem → length mem ≤ length new
+    → ((p : Place) → is_lent_at new p ≡ is_lent_at mem p) → AreUnheld m names new
+unheld-else m names mem new unheld more marks index below out =
+    let was = unheld index below out in
+    let area = was.kept.place.area in
+    record {
+      free = was.free;
+      kept = record { place = record { area = omega arith; index = was.kept.place.index }; kept = marks _ ∙ was.kept.kept };
+    }
+
+pub unheld-begins : (m : Mediated) (names : Names) (mem : Memory) → IsOneToOne names → length mem ≡ length names → 0 < length names
+    → ((name : Name) → is_taken names name ≡ false) → ((p : Place) → is_lent_at mem p ≡ false) → AreUnheld m names mem
+unheld-begins m names mem one areas some free kept index below out =
+    let name : Name = receive_name index in
+    let here : IsNameIn (length names) name = record { area = some; index = below } in
+    record { free = free name; kept = record { place = rw areas (one.within name here); kept = kept _ } }
+
+pub unheld-heard : (m : Mediated) (mem new : Memory) (names : Names) (regs : Registers) (frame : List ℕ) (log log' : List LogEntry) (result : Result Verdict NoMemory)
+    → AreUnheld m names mem → OnHeard result ((written : List ℕ) × (log' ≡ In frame written ∷ log) × IsReceived mem new (receive_head regs) written)
+    → OnUnheard result (new ≡ mem) → AreUnheld m names new
+unheld-heard m mem new names regs frame log log' (Ok Heard) unheld heard unheard =
+    let areas = heard.2.areas in
+    unheld-else m names mem new unheld (omega arith) heard.2.lent
+unheld-heard m mem new names regs frame log log' (Ok Missed) unheld heard unheard = subst (λ x. AreUnheld m names x) (sym unheard) unheld
+unheld-heard m mem new names regs frame log log' (Ok Filtered) unheld heard unheard = subst (λ x. AreUnheld m names x) (sym unheard) unheld
+unheld-heard m mem new names regs frame log log' (Err e) unheld heard unheard = subst (λ x. AreUnheld m names x) (sym unheard) unheld
+
+pub unheld-transmitted : (m : Mediated) (mem new : Memory) (names : Names) (regs : Registers) (result : Result Bool NoMemory)
+    → AreUnheld m names mem → OnSent result (IsTransmitted mem new (transmit_head regs)) → OnUnsent result (new ≡ mem) → AreUnheld m names new
+unheld-transmitted m mem new names regs (Ok true) unheld sent unsent =
+    let areas = sent.areas in
+    unheld-else m names mem new unheld (omega arith) sent.lent
+unheld-transmitted m mem new names regs (Ok false) unheld sent unsent = subst (λ x. AreUnheld m names x) (sym unsent) unheld
+unheld-transmitted m mem new names regs (Err e) unheld sent unsent = subst (λ x. AreUnheld m names x) (sym unsent) unheld
+
+pub outbound-begins : (m : Mediated) (names : Names) → m.transmit ≡ no_ring → AreOutbound m names
+outbound-begins m names none number is_open = absurd (none_open number (subst (λ (r : RingView). IsOpen r number) none is_open))

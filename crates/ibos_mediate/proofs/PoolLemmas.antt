@@ -1,19 +1,18 @@
 -- What a mediator does with its buffers, as the pool sees it.
-use Rattle.std.proofs.Common.{◌≡◌, ◌≢◌, ℕ, zero, suc, ◌+◌, ◌-◌, ◌<◌, ◌≤◌, ◌⊎◌, ◌||◌, List, [], ◌∷◌, ◌++◌, Bool, true, false, length, cond, get_or, refl, sym, ◌∙◌, ap, inl, inr, ⊎_elim, subst, arith}
+use Rattle.std.proofs.Common.{◌≡◌, ◌≢◌, ℕ, zero, suc, ◌+◌, ◌-◌, ◌<◌, ◌⊎◌, ◌||◌, List, [], ◌∷◌, Bool, true, false, length, cond, refl, sym, ◌∙◌, ap, inl, inr, ⊎_elim, subst, arith}
 use Rattle.std.proofs.lemmas.Bool.{cases_eq}
 use Rattle.std.proofs.lemmas.List.Folds.{list_any-append}
 use Rattle.std.specs.List.{list_any}
 use Rattle.std.specs.Prelude.{slice_index_or}
 use Rattle.ibos_pool.specs.declared.name.Name.{Name}
-use Rattle.ibos_pool.specs.declared.place.Place.{Place}
 use Rattle.ibos_pool.specs.declared.limits.TheConstants.{RECEIVE_BUFFERS}
-use Rattle.ibos_pool.specs.Memory.{IsKept, Memory, is_lent_at}
+use Rattle.ibos_pool.specs.Memory.{Memory, is_lent_at}
 use Rattle.ibos_pool.specs.Names.{Held, IsClaimed, IsLoanOf, IsNameIn, IsOneToOne, Names, is_taken, place_of, same_name}
-use Rattle.ibos_pool.specs.Places.{IsPlaceIn, same_place}
+use Rattle.ibos_pool.specs.Places.{same_place}
 use Rattle.ibos_pool.proofs.NameLemmas.{same_name_from_test, test_from_same_name}
 use Rattle.ibos_pool.proofs.PlaceLemmas.{same_from_test}
-use Rattle.ibos_mediate.specs.Mediated.{IsBalanced, Mediated, RingView}
-use Rattle.ibos_mediate.specs.Posts.{AreUnheld, IsPosted, IsUnheld, receive_buffer}
+use Rattle.ibos_mediate.specs.Mediated.{IsBalanced, Mediated}
+use Rattle.ibos_mediate.specs.Posts.{AreUnheld, IsPosted, receive_buffer}
 use Rattle.ibos_mediate.specs.Relation.{IsInPool, IsOpen, held_for, no_buffer}
 use Rattle.ibos_mediate.specs.Rules.{after_take, is_in_ring, receive_name, with_post}
 use Rattle.ibos_mediate.proofs.PostLemmas.{held-before, held-new}

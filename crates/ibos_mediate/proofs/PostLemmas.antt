@@ -1,24 +1,22 @@
 -- What a ring is after one more descriptor was posted.
-use Rattle.std.proofs.Common.{◌≡◌, ◌≢◌, ℕ, zero, suc, ◌+◌, ◌-◌, ◌*◌, ◌%◌, ◌<◌, ◌≤◌, ◌⊎◌, ◌==◌, List, [], ◌∷◌, ◌++◌, Bool, true, false, length, refl, sym, ◌∙◌, ap, inl, inr, ⊎_elim, subst, arith, length-append, get_or}
+use Rattle.std.proofs.Common.{◌≡◌, ◌≢◌, ℕ, ◌+◌, ◌-◌, ◌<◌, ◌≤◌, [], ◌∷◌, ◌++◌, length, sym, ◌∙◌, ap, inr, ⊎_elim, subst, arith, length-append}
 use Rattle.std.proofs.lemmas.Bool.{cases_eq, cases_lt}
 use Rattle.std.proofs.lemmas.List.{get_or_append_left, get_or-append-add}
-use Rattle.std.specs.Prelude.{IsFalse, IsTrue, slice_index, slice_index_or}
+use Rattle.std.specs.Prelude.{slice_index, slice_index_or}
 use Rattle.ibos_pool.specs.declared.name.Ring.{Ring}
 use Rattle.ibos_pool.specs.declared.name.Ring.TheVariants.{Receive, Transmit}
-use Rattle.ibos_pool.specs.declared.place.Place.{Place}
-use Rattle.ibos_pool.specs.declared.limits.TheConstants.{BUFFER_BYTES, DESCRIPTOR_BYTES}
-use Rattle.ibos_pool.specs.Memory.{IsKept, IsLent, Memory, bytes_at, is_lent_at}
+use Rattle.ibos_pool.specs.declared.limits.TheConstants.{BUFFER_BYTES}
+use Rattle.ibos_pool.specs.Memory.{IsLent, Memory}
 use Rattle.ibos_pool.specs.Names.{Held}
-use Rattle.ibos_pool.specs.Places.{IsApart, address_of, same_place}
+use Rattle.ibos_pool.specs.Places.{address_of}
 use Rattle.ibos_nic.specs.declared.descriptor.RxDesc.{RxDesc}
 use Rattle.ibos_nic.specs.declared.descriptor.TxDesc.{TxDesc}
-use Rattle.ibos_nic.specs.Registers.{Registers, is_enabled, ring_size}
-use Rattle.ibos_mediate.specs.Mediated.{IsBalanced, Mediated, RingView}
-use Rattle.ibos_mediate.specs.Relation.{AreApart, IsAsPosted, IsAtDevice, IsInMemory, IsOpen, IsRingAtDevice, IsRingInMemory, address_in, completed, descriptor_at, held_for, is_done, length_for, no_buffer, place_for, ring_of, slot_of}
-use Rattle.ibos_mediate.specs.Posts.{IsPosted}
+use Rattle.ibos_nic.specs.Registers.{ring_size}
+use Rattle.ibos_mediate.specs.Mediated.{IsBalanced, RingView}
+use Rattle.ibos_mediate.specs.Relation.{IsAsPosted, IsOpen, IsRingInMemory, address_in, completed, held_for, is_done, length_for, no_buffer, place_for}
 use Rattle.ibos_mediate.specs.Rules.{with_post}
 use Rattle.ibos_mediate.proofs.RingLemmas.{completed-before, completed-high, completed-is, completed-low, completed-undone, undone-as_posted}
-use Rattle.ibos_mediate.proofs.StepLemmas.{address-same, completed-stays, descriptor_of, descriptors_apart, done-same, posted-same, ring-stays, rings_apart, told-same}
+use Rattle.ibos_mediate.proofs.StepLemmas.{address-same, descriptor_of, done-same, posted-same, told-same}
 
 -- the address of a descriptor as it was posted
 address-posted : (ring : Ring) (mem : Memory) (number address len : ℕ) → IsAsPosted ring mem number address len → address_in ring mem number ≡ address

@@ -1,17 +1,16 @@
 -- A post keeps the relation.
-use Rattle.std.proofs.Common.{◌≡◌, ◌≢◌, ℕ, zero, suc, ◌+◌, ◌-◌, ◌*◌, ◌%◌, ◌<◌, ◌≤◌, ◌⊎◌, ◌==◌, List, [], ◌∷◌, Bool, true, false, length, cond, refl, sym, ◌∙◌, ap, inl, inr, ⊎_elim, subst, arith}
-use Rattle.std.proofs.lemmas.Bool.{cases_eq, cases_lt}
-use Rattle.std.specs.Prelude.{IsFalse, IsTrue}
+use Rattle.std.proofs.Common.{◌≡◌, ◌≢◌, ℕ, ◌+◌, ◌-◌, ◌<◌, ◌≤◌, ◌⊎◌, List, Bool, true, false, length, cond, refl, sym, ◌∙◌, ap, inl, inr, ⊎_elim, subst, arith}
+use Rattle.std.proofs.lemmas.Bool.{cases_eq}
 use Rattle.ibos_pool.specs.declared.name.Ring.{Ring}
 use Rattle.ibos_pool.specs.declared.name.Ring.TheVariants.{Receive, Transmit}
 use Rattle.ibos_pool.specs.declared.place.Place.{Place}
 use Rattle.ibos_pool.specs.declared.limits.TheConstants.{BUFFER_BYTES, DESCRIPTOR_BYTES}
-use Rattle.ibos_pool.specs.Memory.{IsKept, IsLent, Memory, bytes_at, is_lent_at}
+use Rattle.ibos_pool.specs.Memory.{IsKept, IsLent, Memory, is_lent_at}
 use Rattle.ibos_pool.specs.Names.{Held}
-use Rattle.ibos_pool.specs.Places.{IsApart, IsPlaceIn, address_of, same_place}
+use Rattle.ibos_pool.specs.Places.{address_of, same_place}
 use Rattle.ibos_nic.specs.Registers.{Registers, ring_size}
-use Rattle.ibos_mediate.specs.Mediated.{IsBalanced, Mediated, RingView}
-use Rattle.ibos_mediate.specs.Relation.{AreApart, IsAsPosted, IsAtDevice, IsInMemory, IsOpen, IsRingAtDevice, IsRingInMemory, completed, descriptor_at, held_for, place_for, ring_of, slot_of}
+use Rattle.ibos_mediate.specs.Mediated.{Mediated, RingView}
+use Rattle.ibos_mediate.specs.Relation.{IsAsPosted, IsAtDevice, IsInMemory, IsOpen, IsRingAtDevice, IsRingInMemory, completed, descriptor_at, place_for, ring_of, slot_of}
 use Rattle.ibos_mediate.specs.Posts.{IsPosted}
 use Rattle.ibos_mediate.specs.Rules.{with_post}
 use Rattle.ibos_mediate.proofs.PostLemmas.{completed-posted, held-before, held-new, ring-posted}

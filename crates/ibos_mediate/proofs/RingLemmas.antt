@@ -1,16 +1,11 @@
 -- The number of the first descriptor that the device is not done with.
-use Rattle.std.proofs.Common.{◌≡◌, ℕ, ◌+◌, ◌-◌, ◌%◌, ◌<◌, ◌≤◌, ◌⊎◌, Bool, true, false, refl, sym, ◌∙◌, ap, inl, inr, ⊎_elim, subst, arith}
-use Rattle.std.proofs.lemmas.Bool.{cases_eq, cases_lt}
+use Rattle.std.proofs.Common.{◌≡◌, ℕ, ◌-◌, ◌<◌, ◌≤◌, ◌⊎◌, true, false, refl, inl, inr, ⊎_elim, arith}
 use Rattle.ibos_pool.specs.declared.name.Ring.{Ring}
 use Rattle.ibos_pool.specs.declared.name.Ring.TheVariants.{Receive, Transmit}
 use Rattle.ibos_pool.specs.Memory.{Memory}
-use Rattle.ibos_pool.specs.Places.{address_of}
-use Rattle.ibos_nic.specs.Device.{rx_at, tx_at}
-use Rattle.ibos_nic.specs.declared.descriptor.RxDesc.{RxDesc}
-use Rattle.ibos_nic.specs.declared.descriptor.TxDesc.{TxDesc}
-use Rattle.ibos_mediate.specs.Mediated.{IsBalanced, Mediated, RingView}
-use Rattle.ibos_mediate.specs.Relation.{IsAsPosted, IsOpen, IsRingInMemory, completed, descriptor_at, is_done, length_for, place_for, posted_rx, posted_tx, slot_of}
-use Rattle.ibos_mediate.proofs.FirstLemmas.{first_not-before, first_not-fails, first_not-high, first_not-is, first_not-low, first_not-same}
+use Rattle.ibos_mediate.specs.Mediated.{RingView}
+use Rattle.ibos_mediate.specs.Relation.{IsAsPosted, completed, is_done}
+use Rattle.ibos_mediate.proofs.FirstLemmas.{first_not-before, first_not-fails, first_not-high, first_not-is, first_not-low}
 
 pub completed-low : (ring : Ring) (mem : Memory) (r : RingView) → r.taken ≤ completed ring mem r
 completed-low ring mem r = first_not-low (is_done ring mem) r.taken (r.posted - r.taken)

@@ -1,20 +1,18 @@
 -- What a ring is in a memory that was written.
-use Rattle.std.proofs.Common.{◌≡◌, ◌≢◌, ℕ, ◌+◌, ◌-◌, ◌*◌, ◌%◌, ◌<◌, ◌≤◌, ◌⊎◌, ◌==◌, List, Bool, true, false, length, refl, sym, ◌∙◌, ap, inl, inr, ⊎_elim, subst, arith}
+use Rattle.std.proofs.Common.{◌≡◌, ◌≢◌, ℕ, ◌+◌, ◌<◌, ◌≤◌, ◌==◌, List, true, false, length, refl, sym, ◌∙◌, ap, inl, inr, ⊎_elim, arith}
 use Rattle.std.proofs.lemmas.Bool.{cases_eq, cases_lt}
-use Rattle.std.specs.Prelude.{IsFalse, IsTrue, bit_and}
+use Rattle.std.specs.Prelude.{IsTrue, bit_and}
 use Rattle.ibos_pool.specs.declared.name.Ring.{Ring}
 use Rattle.ibos_pool.specs.declared.name.Ring.TheVariants.{Receive, Transmit}
 use Rattle.ibos_pool.specs.declared.place.Place.{Place}
-use Rattle.ibos_pool.specs.declared.limits.TheConstants.{BUFFER_BYTES, DESCRIPTOR_BYTES, RING_BYTES}
+use Rattle.ibos_pool.specs.declared.limits.TheConstants.{DESCRIPTOR_BYTES}
 use Rattle.ibos_pool.specs.Memory.{IsLent, Memory, bytes_at, is_lent_at}
-use Rattle.ibos_pool.specs.Places.{IsApart, IsPlaceIn, address_of, ring_base}
+use Rattle.ibos_pool.specs.Places.{IsApart}
 use Rattle.ibos_nic.specs.declared.limits.TheConstants.{DONE, MOST_FRAME}
-use Rattle.ibos_nic.specs.declared.descriptor.RxDesc.{RxDesc}
-use Rattle.ibos_nic.specs.declared.descriptor.TxDesc.{TxDesc}
 use Rattle.ibos_nic.specs.Descriptors.{rx_of, tx_of}
-use Rattle.ibos_nic.specs.Registers.{is_enabled, ring_size}
-use Rattle.ibos_mediate.specs.Mediated.{IsBalanced, Mediated, RingView}
-use Rattle.ibos_mediate.specs.Relation.{IsAsPosted, IsOpen, IsRingInMemory, address_in, completed, descriptor_at, is_done, length_for, place_for, slot_of, told_length}
+use Rattle.ibos_nic.specs.Registers.{is_enabled}
+use Rattle.ibos_mediate.specs.Mediated.{IsBalanced, RingView}
+use Rattle.ibos_mediate.specs.Relation.{IsAsPosted, IsOpen, IsRingInMemory, address_in, completed, descriptor_at, is_done, place_for, slot_of, told_length}
 use Rattle.ibos_mediate.proofs.RingLemmas.{completed-before, completed-high, completed-is, completed-low, completed-undone, undone-as_posted}
 
 -- the bytes of the descriptor of that number

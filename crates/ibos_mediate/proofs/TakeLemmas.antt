@@ -1,22 +1,21 @@
 -- What a ring is after its oldest descriptor was taken back.
-use Rattle.std.proofs.Common.{◌≡◌, ◌≢◌, ℕ, zero, suc, ◌+◌, ◌-◌, ◌*◌, ◌%◌, ◌<◌, ◌≤◌, ◌⊎◌, ◌==◌, List, [], ◌∷◌, Bool, true, false, length, drop, refl, sym, ◌∙◌, ap, inl, inr, ⊎_elim, subst, arith, length-drop}
-use Rattle.std.proofs.lemmas.Bool.{cases_eq, cases_lt}
+use Rattle.std.proofs.Common.{◌≡◌, ℕ, ◌+◌, ◌-◌, ◌<◌, ◌≤◌, ◌==◌, true, false, refl, sym, ◌∙◌, ap, inl, inr, ⊎_elim, subst, arith, length-drop}
+use Rattle.std.proofs.lemmas.Bool.{cases_lt}
 use Rattle.std.proofs.lemmas.Bool.Decides.{nat_tests}
 use Rattle.std.proofs.lemmas.List.{get_or-drop}
-use Rattle.std.specs.Prelude.{IsFalse, IsTrue, bit_and, slice_index, slice_index_or}
+use Rattle.std.specs.Prelude.{IsTrue, bit_and, slice_index, slice_index_or}
 use Rattle.ibos_pool.specs.declared.name.Ring.{Ring}
 use Rattle.ibos_pool.specs.declared.name.Ring.TheVariants.{Receive, Transmit}
-use Rattle.ibos_pool.specs.declared.limits.TheConstants.{BUFFER_BYTES, DESCRIPTOR_BYTES}
+use Rattle.ibos_pool.specs.declared.limits.TheConstants.{BUFFER_BYTES}
 use Rattle.ibos_pool.specs.Memory.{IsLent, Memory}
 use Rattle.ibos_pool.specs.Names.{Held}
 use Rattle.ibos_pool.specs.Places.{address_of, slot_address}
-use Rattle.ibos_nic.specs.Registers.{ring_size}
 use Rattle.ibos_nic.specs.declared.limits.TheConstants.{DONE}
 use Rattle.ibos_nic.specs.declared.descriptor.RxDesc.{RxDesc}
 use Rattle.ibos_nic.specs.declared.descriptor.TxDesc.{TxDesc}
 use Rattle.ibos_nic.specs.Device.{rx_at, tx_at}
-use Rattle.ibos_mediate.specs.Mediated.{IsBalanced, RingView}
-use Rattle.ibos_mediate.specs.Relation.{IsAsPosted, IsOpen, IsRingInMemory, address_in, completed, descriptor_at, held_for, is_done, length_for, no_buffer, place_for, slot_of}
+use Rattle.ibos_mediate.specs.Mediated.{RingView}
+use Rattle.ibos_mediate.specs.Relation.{IsAsPosted, IsOpen, IsRingInMemory, address_in, completed, held_for, is_done, length_for, no_buffer, place_for, slot_of}
 use Rattle.ibos_mediate.specs.Rules.{after_take}
 use Rattle.ibos_mediate.proofs.RingLemmas.{completed-before, completed-high, completed-is, completed-low, completed-undone}
 use Rattle.ibos_mediate.proofs.StepLemmas.{address-same, descriptor_of, done-same, posted-same, told-same}

@@ -1,18 +1,16 @@
 -- A descriptor that is taken back keeps the relation.
-use Rattle.std.proofs.Common.{◌≡◌, ◌≢◌, ℕ, zero, suc, ◌+◌, ◌-◌, ◌<◌, ◌≤◌, ◌⊎◌, ◌==◌, List, [], ◌∷◌, Bool, true, false, length, cond, refl, sym, ◌∙◌, ap, inl, inr, ⊎_elim, subst, arith}
-use Rattle.std.proofs.lemmas.Bool.{cases_eq, cases_lt}
-use Rattle.std.specs.Prelude.{IsFalse, IsTrue}
+use Rattle.std.proofs.Common.{◌≡◌, ◌≢◌, ℕ, ◌<◌, List, Bool, true, false, cond, refl, sym, ◌∙◌, ap, arith}
 use Rattle.ibos_pool.specs.declared.name.Ring.{Ring}
 use Rattle.ibos_pool.specs.declared.name.Ring.TheVariants.{Receive, Transmit}
 use Rattle.ibos_pool.specs.declared.place.Place.{Place}
 use Rattle.ibos_pool.specs.declared.limits.TheConstants.{DESCRIPTOR_BYTES}
-use Rattle.ibos_pool.specs.Memory.{IsKept, IsLent, IsMarked, Memory, bytes_at, is_lent_at}
+use Rattle.ibos_pool.specs.Memory.{IsLent, IsMarked, Memory}
 use Rattle.ibos_pool.specs.Names.{Held}
-use Rattle.ibos_pool.specs.Places.{IsPlaceIn, same_place}
+use Rattle.ibos_pool.specs.Places.{same_place}
 use Rattle.ibos_pool.proofs.PlaceLemmas.{same_from_test}
-use Rattle.ibos_nic.specs.Registers.{Registers, ring_size}
-use Rattle.ibos_mediate.specs.Mediated.{IsBalanced, Mediated, RingView}
-use Rattle.ibos_mediate.specs.Relation.{AreApart, IsAtDevice, IsInMemory, IsOpen, IsRingAtDevice, IsRingInMemory, completed, descriptor_at, held_for, place_for, ring_of, slot_of}
+use Rattle.ibos_nic.specs.Registers.{Registers}
+use Rattle.ibos_mediate.specs.Mediated.{Mediated, RingView}
+use Rattle.ibos_mediate.specs.Relation.{IsAtDevice, IsInMemory, IsOpen, IsRingInMemory, completed, descriptor_at, place_for, ring_of, slot_of}
 use Rattle.ibos_mediate.specs.Rules.{after_take}
 use Rattle.ibos_mediate.proofs.PostedLemmas.{in_ring}
 use Rattle.ibos_mediate.proofs.StepLemmas.{completed-stays, descriptor_of, ring-stays}

@@ -1,21 +1,21 @@
 -- A frame that is sent keeps the relation.
-use Rattle.std.proofs.Common.{◌≡◌, ◌≢◌, ℕ, ◌+◌, ◌-◌, ◌*◌, ◌%◌, ◌^◌, ◌<◌, ◌≤◌, ◌⊎◌, List, Bool, true, false, length, refl, sym, ◌∙◌, ap, inl, inr, subst, arith}
-use Rattle.std.specs.Prelude.{IsFalse, IsTrue, Result, Ok, Err, IfOk}
+use Rattle.std.proofs.Common.{◌≡◌, ◌≢◌, ℕ, ◌+◌, ◌<◌, Bool, true, false, length, refl, sym, ◌∙◌, ap, subst, arith}
+use Rattle.std.specs.Prelude.{IsTrue, Result, Ok, Err, IfOk}
 use Rattle.ibos_kinds.specs.declared.bytes.Memory.{Memory as NoMemory}
 use Rattle.ibos_pool.specs.declared.name.Ring.{Ring}
 use Rattle.ibos_pool.specs.declared.name.Ring.TheVariants.{Receive, Transmit}
 use Rattle.ibos_pool.specs.declared.place.Place.{Place}
-use Rattle.ibos_pool.specs.declared.limits.TheConstants.{BUFFER_BYTES, DESCRIPTOR_BYTES, MOST_AREAS, RING_BYTES}
-use Rattle.ibos_pool.specs.Memory.{IsLent, IsWritten, Memory, bytes_at}
-use Rattle.ibos_pool.specs.Places.{IsApart, IsPlaceIn, address_of}
+use Rattle.ibos_pool.specs.declared.limits.TheConstants.{DESCRIPTOR_BYTES}
+use Rattle.ibos_pool.specs.Memory.{IsLent, Memory, bytes_at}
+use Rattle.ibos_pool.specs.Places.{IsApart, address_of}
 use Rattle.ibos_nic.specs.declared.reg.Reg.{Reg}
-use Rattle.ibos_nic.specs.declared.reg.Reg.TheVariants.{Icr, Rctl, Tctl, Rdbal, Rdbah, Rdlen, Rdh, Rdt, Tdbal, Tdbah, Tdlen, Tdh, Tdt, Mpc}
+use Rattle.ibos_nic.specs.declared.reg.Reg.TheVariants.{Rctl, Tctl, Rdbal, Rdbah, Rdlen, Rdh, Rdt, Tdbal, Tdbah, Tdlen, Tdh, Tdt}
 use Rattle.ibos_nic.specs.declared.descriptor.TxDesc.{TxDesc}
 use Rattle.ibos_nic.specs.Descriptors.{FitsTx, tx_bytes, tx_of}
 use Rattle.ibos_nic.specs.Device.{IsTransmitted, MayTransmit, OnSent, OnUnsent, after_transmit, transmitted, tx_at}
-use Rattle.ibos_nic.specs.Registers.{Registers, can_transmit, is_enabled, next_slot, ring_size, transmit_head}
-use Rattle.ibos_mediate.specs.Mediated.{IsBalanced, Mediated, RingView}
-use Rattle.ibos_mediate.specs.Relation.{IsAtDevice, IsConfigured, IsInMemory, IsOpen, IsRingAtDevice, IsRingInMemory, completed, descriptor_at, is_done, length_for, place_for, posted_tx, slot_of}
+use Rattle.ibos_nic.specs.Registers.{Registers, can_transmit, is_enabled, next_slot, transmit_head}
+use Rattle.ibos_mediate.specs.Mediated.{Mediated}
+use Rattle.ibos_mediate.specs.Relation.{IsAtDevice, IsInMemory, IsOpen, completed, descriptor_at, is_done, length_for, place_for, posted_tx, slot_of}
 use Rattle.ibos_mediate.proofs.RingLemmas.{completed-low}
 use Rattle.ibos_mediate.proofs.WriteLemmas.{found_at, may_transmit}
 use Rattle.ibos_mediate.proofs.StepLemmas.{completed-goes_on, completed-stays, descriptor_of, descriptors_apart, lent-same, ring-goes_on, ring-stays, rings_apart, slots_apart}

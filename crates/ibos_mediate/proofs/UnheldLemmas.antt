@@ -1,5 +1,5 @@
 -- Which buffers no one holds, and whose the buffers of the transmit ring are, after each call.
-use Rattle.std.proofs.Common.{◌≡◌, ◌≢◌, ℕ, zero, suc, ◌+◌, ◌-◌, ◌<◌, ◌≤◌, ◌⊎◌, ◌||◌, List, [], ◌∷◌, ◌++◌, Bool, true, false, length, drop, cond, refl, sym, ◌∙◌, ap, inl, inr, ⊎_elim, subst, arith, length-drop}
+use Rattle.std.proofs.Common.{◌≡◌, ◌≢◌, ℕ, ◌+◌, ◌-◌, ◌<◌, ◌||◌, List, [], ◌∷◌, Bool, true, false, length, drop, cond, refl, sym, ◌∙◌, ap, ⊎_elim, subst, arith, length-drop}
 use Rattle.std.proofs.lemmas.Bool.{cases_eq}
 use Rattle.std.proofs.lemmas.Bool.Decides.{nat_tests}
 use Rattle.std.proofs.lemmas.List.Folds.{list_any_at}
@@ -8,17 +8,16 @@ use Rattle.ibos_pool.specs.declared.name.Name.{Name}
 use Rattle.ibos_pool.specs.declared.name.Ring.{Ring}
 use Rattle.ibos_pool.specs.declared.name.Ring.TheVariants.{Receive, Transmit}
 use Rattle.ibos_pool.specs.declared.place.Place.{Place}
-use Rattle.ibos_pool.specs.declared.limits.TheConstants.{RECEIVE_BUFFERS}
 use Rattle.ibos_pool.specs.Memory.{IsKept, IsLent, IsMarked, Memory, is_lent_at}
 use Rattle.ibos_pool.specs.Names.{Held, IsClaimed, IsLoanOf, IsNameIn, IsOneToOne, Names, is_taken, place_of, same_name}
-use Rattle.ibos_pool.specs.Places.{IsPlaceIn, same_place}
+use Rattle.ibos_pool.specs.Places.{same_place}
 use Rattle.ibos_pool.proofs.NameLemmas.{same_name_from_test, test_from_same_name}
 use Rattle.ibos_pool.proofs.PlaceLemmas.{same_from_test, test_from_same}
 use Rattle.ibos_nic.specs.declared.reg.Reg.{Reg}
 use Rattle.ibos_nic.specs.declared.reg.Reg.TheVariants.{Rctl, Tctl, Rdbal, Rdlen, Rdt, Tdbal, Tdlen, Tdt}
 use Rattle.ibos_mediate.specs.Closing.{AreOutbound}
 use Rattle.ibos_mediate.specs.Mediated.{IsBalanced, Mediated, RingView}
-use Rattle.ibos_mediate.specs.Posts.{AreUnheld, IsPosted, IsUnheld}
+use Rattle.ibos_mediate.specs.Posts.{AreUnheld, IsPosted}
 use Rattle.ibos_mediate.specs.Relation.{IsInMemory, IsInPool, IsOpen, held_for, no_buffer, ring_of}
 use Rattle.ibos_mediate.specs.Rules.{after_take, is_in_ring, receive_name, with_post}
 use Rattle.ibos_mediate.specs.Writes.{AreKept, after_writing}

@@ -1,22 +1,19 @@
 -- A write that the driver may make keeps the relation.
-use Rattle.std.proofs.Common.{◌≡◌, ◌≢◌, ℕ, ◌+◌, ◌-◌, ◌*◌, ◌%◌, ◌^◌, ◌<◌, ◌≤◌, ◌⊎◌, ◌==◌, List, Bool, true, false, refl, sym, ◌∙◌, ap, inl, inr, ⊎_elim, subst, arith}
-use Rattle.std.proofs.lemmas.Bool.Decides.{nat_tests}
+use Rattle.std.proofs.Common.{◌≡◌, ℕ, ◌+◌, ◌%◌, ◌<◌, ◌≤◌, true, false, refl, sym, ◌∙◌, ap, inl, inr, subst, arith}
 use Rattle.std.proofs.lemmas.Nat.{and_assoc}
 use Rattle.std.specs.Prelude.{IsFalse, IsTrue, bit_and}
 use Rattle.ibos_pool.specs.declared.name.Ring.{Ring}
 use Rattle.ibos_pool.specs.declared.name.Ring.TheVariants.{Receive, Transmit}
-use Rattle.ibos_pool.specs.declared.limits.TheConstants.{BUFFER_BYTES, DESCRIPTOR_BYTES, RING_BYTES}
-use Rattle.ibos_pool.specs.Memory.{IsLent, Memory}
+use Rattle.ibos_pool.specs.declared.limits.TheConstants.{DESCRIPTOR_BYTES, RING_BYTES}
+use Rattle.ibos_pool.specs.Memory.{Memory}
 use Rattle.ibos_pool.specs.Names.{Names}
-use Rattle.ibos_pool.specs.Places.{IsInside, address_of, ring_base, slot_address}
+use Rattle.ibos_pool.specs.Places.{IsInside, ring_base}
 use Rattle.ibos_nic.specs.declared.reg.Reg.{Reg}
-use Rattle.ibos_nic.specs.declared.reg.Reg.TheVariants.{Ctrl, Status, Icr, Ims, Imc, Rctl, Tctl, Rdbal, Rdbah, Rdlen, Rdh, Rdt, Tdbal, Tdbah, Tdlen, Tdh, Tdt, Mpc, Ral0, Rah0}
-use Rattle.ibos_nic.specs.declared.descriptor.RxDesc.{RxDesc}
-use Rattle.ibos_nic.specs.declared.descriptor.TxDesc.{TxDesc}
-use Rattle.ibos_nic.specs.Device.{MayMoveTail, MayReceive, MayTransmit, distance, rx_at, tx_at}
-use Rattle.ibos_nic.specs.Registers.{Registers, after_read, after_write, descriptor_address, is_enabled, ring_size}
-use Rattle.ibos_mediate.specs.Mediated.{IsBalanced, Mediated, RingView}
-use Rattle.ibos_mediate.specs.Relation.{AreApart, IsAsPosted, IsAtDevice, IsConfigured, IsInMemory, IsInPool, IsOpen, IsRingAtDevice, IsRingInMemory, address_in, base_reg, completed, control_reg, descriptor_at, head_reg, held_for, high_reg, len_reg, length_for, place_for, posted_rx, posted_tx, ring_of, slot_of, tail_reg}
+use Rattle.ibos_nic.specs.declared.reg.Reg.TheVariants.{Rctl, Tctl, Rdbal, Rdlen, Rdt, Tdbal, Tdlen, Tdt}
+use Rattle.ibos_nic.specs.Device.{MayMoveTail, MayReceive, MayTransmit, distance}
+use Rattle.ibos_nic.specs.Registers.{Registers, descriptor_address, is_enabled, ring_size}
+use Rattle.ibos_mediate.specs.Mediated.{Mediated, RingView}
+use Rattle.ibos_mediate.specs.Relation.{AreApart, IsAtDevice, IsConfigured, IsInMemory, IsInPool, IsOpen, IsRingAtDevice, IsRingInMemory, completed, descriptor_at, place_for, ring_of, slot_of}
 use Rattle.ibos_mediate.specs.Writes.{IsDisabled, MayRing, MayWrite, after_writing, rung_to}
 use Rattle.ibos_mediate.proofs.RingLemmas.{completed-low}
 

@@ -1,5 +1,5 @@
 -- What a post changes of the memory, and which receive buffers can be posted.
-use Rattle.std.specs.Prelude.{◌≡◌, ℕ, ◌<◌, List, Bool, true, false, length, if◌then◌else◌}
+use Rattle.std.specs.Prelude.{◌≡◌, ℕ, ◌<◌, List, true, false, length, if◌then◌else◌}
 use Rattle.ibos_pool.specs.declared.name.Name.{Name}
 use Rattle.ibos_pool.specs.declared.place.Place.{Place}
 use Rattle.ibos_pool.specs.declared.limits.TheConstants.{RECEIVE_BUFFERS}

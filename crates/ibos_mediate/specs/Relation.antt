@@ -14,6 +14,7 @@ use Rattle.ibos_nic.specs.declared.descriptor.TxDesc.{TxDesc}
 use Rattle.ibos_nic.specs.declared.limits.TheConstants.{DONE, MOST_FRAME}
 use Rattle.ibos_nic.specs.Device.{rx_at, tx_at}
 use Rattle.ibos_nic.specs.Registers.{Registers, is_enabled, ring_size}
+use Rattle.ibos_mediate.specs.declared.limits.TheConstants.{TRANSMIT_COMMAND}
 use Rattle.ibos_mediate.specs.Mediated.{IsBalanced, Mediated, RingView}
 
 abbrev pub ring_of : Mediated → Ring → RingView
@@ -46,13 +47,14 @@ place_for r number = (held_for r number).place
 abbrev pub length_for : RingView → ℕ → ℕ
 length_for r number = slice_index r.lengths (number - r.taken)
 
--- a receive descriptor as it is posted
+-- a receive descriptor as it is posted (Intel 8254x 3.2.3)
 abbrev pub posted_rx : ℕ → RxDesc
 posted_rx address = record { address = address; length = 0; checksum = 0; status = 0; errors = 0; special = 0 }
 
--- a transmit descriptor as it is posted: one buffer is one frame, whose check sequence the device adds, and which it reports (EOP, IFCS, RS)
+-- A transmit descriptor as it is posted: the buffer is a whole frame, whose check sequence the device adds, and it is
+-- told when it is sent (Intel 8254x 3.3.3).
 abbrev pub posted_tx : ℕ → ℕ → TxDesc
-posted_tx address len = record { address = address; length = len; cso = 0; cmd = 0x0b; sta = 0; css = 0; special = 0 }
+posted_tx address len = record { address = address; length = len; cso = 0; cmd = TRANSMIT_COMMAND; sta = 0; css = 0; special = 0 }
 
 -- the descriptor of that number is as it was posted with that address and length
 abbrev pub IsAsPosted : Ring → Memory → ℕ → ℕ → ℕ → Type 0
@@ -91,13 +93,18 @@ pub record IsConfigured (ring : Ring) (r : RingView) : Type 0 where
 -- a ring and its descriptors in memory
 pub record IsRingInMemory (ring : Ring) (mem : Memory) (r : RingView) : Type 0 where
   pub balanced : IsBalanced r
+  -- the device is done with none that was not rung
   pub rung : completed ring mem r ≤ r.rung
+  -- those that it is not done with are as they were posted
   pub waiting : (number : ℕ) → completed ring mem r ≤ number → number < r.posted
       → IsAsPosted ring mem number (address_of (place_for r number)) (length_for r number)
+  -- each names the buffer that is held for it, and this is lent
   pub named : (number : ℕ) → IsOpen r number → address_in ring mem number ≡ address_of (place_for r number)
   pub lent : (number : ℕ) → IsOpen r number → IsLent mem (place_for r number)
+  -- what is to be sent lies in the buffer, and what was received is no longer than a frame
   pub inside : (number : ℕ) → IsOpen r number → length_for r number ≤ BUFFER_BYTES
   pub told : (number : ℕ) → r.taken ≤ number → number < completed ring mem r → told_length ring mem number ≤ MOST_FRAME
+  -- a ring is enabled once it is configured, and before that the device is done with nothing
   pub enabled : IsTrue (is_enabled r.control) → IsConfigured ring r
   pub idle : IsFalse (is_enabled r.control) → completed ring mem r ≡ 0
 
@@ -106,7 +113,7 @@ abbrev pub AreApart : Mediated → Type 0
 AreApart m = (one other : Ring) (j k : ℕ) → IsOpen (ring_of m one) j → IsOpen (ring_of m other) k
     → place_for (ring_of m one) j ≡ place_for (ring_of m other) k → (one ≡ other) × (j ≡ k)
 
--- the mediator and the memory agree
+-- The mediator and the memory agree: on each ring, and the places of both differ.
 pub record IsInMemory (m : Mediated) (mem : Memory) : Type 0 where
   pub areas : length mem ≤ MOST_AREAS
   pub receive : IsRingInMemory Receive mem m.receive

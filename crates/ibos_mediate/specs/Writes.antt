@@ -1,5 +1,5 @@
 -- Which writes to registers the driver may make, and what the mediator keeps of one.
-use Rattle.std.specs.Prelude.{◌≡◌, ℕ, ◌+◌, ◌^◌, ◌<◌, ◌≤◌, ◌⊎◌, bit_and, IsFalse, IsTrue}
+use Rattle.std.specs.Prelude.{◌≡◌, ℕ, ◌+◌, ◌^◌, ◌<◌, ◌≤◌, ◌⊎◌, bit_and, IsFalse}
 use Rattle.ibos_pool.specs.declared.name.Ring.TheVariants.{Receive, Transmit}
 use Rattle.ibos_pool.specs.declared.limits.TheConstants.{RING_BYTES}
 use Rattle.ibos_pool.specs.Places.{ring_base}
@@ -7,6 +7,7 @@ use Rattle.ibos_nic.specs.declared.reg.Reg.{Reg}
 use Rattle.ibos_nic.specs.declared.reg.Reg.TheVariants.{Ims, Imc, Rctl, Tctl, Rdbal, Rdbah, Rdlen, Rdh, Rdt, Tdbal, Tdbah, Tdlen, Tdh, Tdt}
 use Rattle.ibos_nic.specs.Device.{distance}
 use Rattle.ibos_nic.specs.Registers.{is_enabled, ring_size}
+use Rattle.ibos_mediate.specs.declared.limits.TheConstants.{CAUSE_BITS, RECEIVE_CONTROL, TRANSMIT_CONTROL, TRANSMIT_FIXED}
 use Rattle.ibos_mediate.specs.Mediated.{Mediated, RingView}
 use Rattle.ibos_mediate.specs.Relation.{IsConfigured}
 
@@ -20,10 +21,10 @@ MayRing r slot = r.rung + distance r.rung slot ≤ r.posted
 
 -- the driver may write that value to that register
 abbrev pub MayWrite : Mediated → Reg → ℕ → Type 0
-MayWrite m Ims value = value < 2 ^ 17
-MayWrite m Imc value = value < 2 ^ 17
-MayWrite m Rctl value = ((value ≡ 0) × IsDisabled m.receive) ⊎ ((value ≡ 0x04008002) × IsConfigured Receive m.receive)
-MayWrite m Tctl value = ((value ≡ 0) × IsDisabled m.transmit) ⊎ ((bit_and value 0xffc0000f ≡ 2) × IsConfigured Transmit m.transmit)
+MayWrite m Ims value = value < 2 ^ CAUSE_BITS
+MayWrite m Imc value = value < 2 ^ CAUSE_BITS
+MayWrite m Rctl value = ((value ≡ 0) × IsDisabled m.receive) ⊎ ((value ≡ RECEIVE_CONTROL) × IsConfigured Receive m.receive)
+MayWrite m Tctl value = ((value ≡ 0) × IsDisabled m.transmit) ⊎ ((bit_and value TRANSMIT_FIXED ≡ TRANSMIT_CONTROL) × IsConfigured Transmit m.transmit)
 MayWrite m Rdbal value = (value ≡ ring_base Receive) × IsDisabled m.receive
 MayWrite m Rdbah value = (value ≡ 0) × IsDisabled m.receive
 MayWrite m Rdlen value = (value ≡ RING_BYTES) × IsDisabled m.receive

@@ -7,7 +7,7 @@ ghost use Rattle.ibos_pool.specs.declared.name.Name.{Name};
 ghost use Rattle.ibos_pool.specs.declared.name.Ring.{Ring};
 ghost use Rattle.ibos_pool.specs.declared.place.Place.{Place};
 ghost use Rattle.ibos_pool.specs.Memory.{IsKept, IsLent, IsWritten, Memory as Areas, bytes_at, is_lent_at, slot_at};
-ghost use Rattle.ibos_pool.specs.Names.{IsClaimed, IsNameIn, Names, is_taken, place_of, same_name};
+ghost use Rattle.ibos_pool.specs.Names.{IsClaimed, IsNameIn, IsOneToOne, Names, is_taken, place_of, same_name};
 ghost use Rattle.ibos_pool.specs.Places.{address_of};
 ghost use Rattle.ibos_nic.specs.declared.log.LogEntry.{LogEntry};
 ghost use Rattle.ibos_nic.specs.declared.log.LogEntry.TheVariants.{In};
@@ -15,7 +15,9 @@ ghost use Rattle.ibos_nic.specs.declared.reg.Reg.{Reg};
 ghost use Rattle.ibos_nic.specs.declared.reg.Reg.TheVariants.{Ral0, Rah0};
 ghost use Rattle.ibos_nic.specs.Device.{IsReceived, IsTransmitted, MayMoveTail, MayReceive, MayTransmit, OnHeard, OnSent, OnUnheard, OnUnsent, after_arrive, after_transmit, verdict_of};
 ghost use Rattle.ibos_nic.specs.Registers.{Registers, after_read, after_write, can_receive, can_transmit, receive_head, reset, transmit_head};
+ghost use Rattle.ibos_mediate.specs.Closing.{AreOutbound};
 ghost use Rattle.ibos_mediate.specs.Mediated.{Mediated};
+ghost use Rattle.ibos_mediate.specs.Posts.{AreUnheld};
 ghost use Rattle.ibos_mediate.specs.Relation.{IsAtDevice, IsInMemory, IsInPool, IsOpen, Mediates, held_for};
 ghost use Rattle.ibos_mediate.specs.Rules.{write_rule_of};
 ghost use Rattle.ibos_mediate.specs.States.{no_ring};
@@ -63,6 +65,10 @@ pub fn arrivals_keep_the_relation()
         → Mediates m mem old names → IfOk result (λ verdict. verdict ≡ verdict_of old frame)
         → OnHeard result ((written : List ℕ) × (log' ≡ In frame written ∷ log) × IsReceived mem mem' (receive_head old) written)
         → OnUnheard result (mem' ≡ mem) → ((r : Reg) → new r ≡ after_arrive result old r) → Mediates m mem' new names }
+    ensures unheld { (m : Mediated) (mem mem' : Areas) (names : Names) (old : Registers) (frame : List ℕ) (log log' : List LogEntry) (result : Result Verdict NoMemory)
+        → AreUnheld m names mem
+        → OnHeard result ((written : List ℕ) × (log' ≡ In frame written ∷ log) × IsReceived mem mem' (receive_head old) written)
+        → OnUnheard result (mem' ≡ mem) → AreUnheld m names mem' }
 {
     descriptors_are_their_bytes();
     parts_are_apart();
@@ -84,6 +90,8 @@ pub fn transmissions_keep_the_relation()
         → Mediates m mem old names → IfOk result (λ sent. sent ≡ can_transmit old)
         → OnSent result (IsTransmitted mem mem' (transmit_head old)) → OnUnsent result (mem' ≡ mem)
         → ((r : Reg) → new r ≡ after_transmit result old r) → Mediates m mem' new names }
+    ensures unheld { (m : Mediated) (mem mem' : Areas) (names : Names) (old : Registers) (result : Result Bool NoMemory) → AreUnheld m names mem
+        → OnSent result (IsTransmitted mem mem' (transmit_head old)) → OnUnsent result (mem' ≡ mem) → AreUnheld m names mem' }
 {
     descriptors_are_their_bytes();
 }
@@ -94,6 +102,9 @@ pub fn relation_begins()
     ensures device { (m : Mediated) (mem : Areas) (regs : Registers) → m.receive ≡ no_ring → m.transmit ≡ no_ring
         → ((r : Reg) → r ≢ Ral0 → r ≢ Rah0 → regs r ≡ reset r) → IsAtDevice m mem regs }
     ensures pool { (m : Mediated) (names : Names) → m.receive ≡ no_ring → m.transmit ≡ no_ring → IsInPool m names }
+    ensures unheld { (m : Mediated) (mem : Areas) (names : Names) → m.receive ≡ no_ring → IsOneToOne names → length mem ≡ length names → 0 < length names
+        → ((name : Name) → is_taken names name ≡ false) → ((p : Place) → is_lent_at mem p ≡ false) → AreUnheld m names mem }
+    ensures outbound { (m : Mediated) (names : Names) → m.transmit ≡ no_ring → AreOutbound m names }
 {}
 
 /// What leaves the rings and their buffers keeps the relation: a buffer that is not lent is written, areas are added,
@@ -112,6 +123,8 @@ pub fn other_changes_keep_the_relation()
         → ((from n : ℕ) → bytes_at mem' from n ≡ bytes_at mem from n) → ((p : Place) → is_lent_at mem' p ≡ is_lent_at mem p) → IsInMemory m mem' }
     ensures growth_device { (m : Mediated) (mem mem' : Areas) (regs : Registers) → IsInMemory m mem → IsAtDevice m mem regs
         → ((from n : ℕ) → bytes_at mem' from n ≡ bytes_at mem from n) → IsAtDevice m mem' regs }
+    ensures unheld { (m : Mediated) (mem mem' : Areas) (names : Names) → AreUnheld m names mem → length mem ≤ length mem'
+        → ((p : Place) → is_lent_at mem' p ≡ is_lent_at mem p) → AreUnheld m names mem' }
     ensures address { (m : Mediated) (mem : Areas) (old new : Registers) (reg : Reg) (value : ℕ) → (reg ≡ Ral0) ⊎ (reg ≡ Rah0) → IsAtDevice m mem old
         → ((r : Reg) → new r ≡ after_write reg value old r) → IsAtDevice m mem new }
 {

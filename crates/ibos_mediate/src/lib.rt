@@ -5,6 +5,7 @@
 mod closing;
 mod counts;
 mod descriptors;
+mod frames;
 mod laws;
 mod limits;
 mod mediator;
@@ -14,6 +15,10 @@ mod ring_state;
 mod takes;
 
 pub use counts::Counts;
+pub use frames::{
+    arrivals_add_a_frame, frames_are_counted, other_changes_keep_the_frames, posts_add_a_frame,
+    takes_end_a_frame, transmissions_end_a_frame,
+};
 pub use laws::{
     arrivals_keep_the_relation, other_changes_keep_the_relation, other_names_keep_the_relation,
     reads_keep_the_relation, relation_begins, transmissions_keep_the_relation,

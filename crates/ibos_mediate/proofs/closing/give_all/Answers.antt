@@ -1,4 +1,4 @@
-use Rattle.std.proofs.Common.{List, ap, ◌≡◌, drop, sym, ◌∙◌}
+use Rattle.std.proofs.Common.{ap}
 use Rattle.circular_buffer.specs.Buffer.{Buffer}
 use Rattle.ibos_pool.specs.Names.{Held}
 use Rattle.ibos_mediate.proofs.CloseLemmas.{closing-popped}

@@ -1,3 +1,4 @@
+use Rattle.ibos_mediate.proofs.OtherLemmas.{unheld-heard}
 use Rattle.ibos_mediate.proofs.ArriveLemmas.{device-arrived, may_arrive, memory-arrived}
 use Rattle.ibos_mediate.proofs.laws.arrivals_keep_the_relation.Goals as goal
 
@@ -18,3 +19,6 @@ returns-clause-whole c = λ m mem mem' names old new frame log log' result all v
   device = device-arrived c.descriptors_are_their_bytes.ensures.rx_back c.parts_are_apart.ensures.behind m mem mem' old new frame log log' all.memory all.device result verdict heard unheard each;
   pool = all.pool;
 }
+
+pub returns-clause-unheld : goal.returns-clause-unheld
+returns-clause-unheld c = unheld-heard

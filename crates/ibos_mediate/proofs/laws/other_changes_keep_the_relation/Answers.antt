@@ -1,5 +1,5 @@
 use Rattle.ibos_pool.specs.declared.limits.TheConstants.{DESCRIPTOR_BYTES}
-use Rattle.ibos_mediate.proofs.OtherLemmas.{device-address, device-else, lent-grown, memory-buffer, memory-else, slots-buffer}
+use Rattle.ibos_mediate.proofs.OtherLemmas.{device-address, device-else, lent-grown, memory-buffer, memory-else, slots-buffer, unheld-else}
 use Rattle.ibos_mediate.proofs.laws.other_changes_keep_the_relation.Goals as goal
 
 pub returns-clause-memory : goal.returns-clause-memory
@@ -24,3 +24,6 @@ returns-clause-growth_device c = λ m mem mem' regs in_memory device bytes. devi
 
 pub returns-clause-address : goal.returns-clause-address
 returns-clause-address c = device-address
+
+pub returns-clause-unheld : goal.returns-clause-unheld
+returns-clause-unheld c = λ m mem mem' names unheld more marks. unheld-else m names mem mem' unheld more marks

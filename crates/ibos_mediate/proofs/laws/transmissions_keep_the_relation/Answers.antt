@@ -1,3 +1,4 @@
+use Rattle.ibos_mediate.proofs.OtherLemmas.{unheld-transmitted}
 use Rattle.ibos_mediate.proofs.TransmitLemmas.{device-transmitted, may_send, memory-transmitted}
 use Rattle.ibos_mediate.proofs.laws.transmissions_keep_the_relation.Goals as goal
 
@@ -18,3 +19,6 @@ returns-clause-whole c = λ m mem mem' names old new result all can sent unsent 
   device = device-transmitted c.descriptors_are_their_bytes.ensures.tx_back c.descriptors_are_their_bytes.ensures.tx_length m mem mem' old new all.memory all.device result can sent unsent each;
   pool = all.pool;
 }
+
+pub returns-clause-unheld : goal.returns-clause-unheld
+returns-clause-unheld c = unheld-transmitted

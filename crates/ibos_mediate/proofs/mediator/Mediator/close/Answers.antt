@@ -1,6 +1,5 @@
-use Rattle.std.proofs.Common.{List, ◌++◌, ◌≡◌, ap, sym, ◌∙◌, subst}
-use Rattle.ibos_pool.specs.Names.{Held}
-use Rattle.ibos_mediate.specs.Closing.{AreAway, AreGiven}
+use Rattle.std.proofs.Common.{◌++◌, ◌≡◌, ap, sym, ◌∙◌, subst}
+use Rattle.ibos_mediate.specs.Closing.{AreAway}
 use Rattle.ibos_mediate.specs.Mediated.{Mediated}
 use Rattle.ibos_mediate.proofs.AwayLemmas.{away-both, away-front}
 use Rattle.ibos_mediate.proofs.mediator.Mediator.close.Goals as goal

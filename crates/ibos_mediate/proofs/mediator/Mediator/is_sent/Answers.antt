@@ -1,4 +1,4 @@
-use Rattle.std.proofs.Common.{◌≡◌, ◌<◌, ◌==◌, false, refl, ap}
+use Rattle.std.proofs.Common.{◌<◌, ◌==◌, false, refl, ap}
 use Rattle.std.specs.Prelude.{IsTrue, bit_and}
 use Rattle.ibos_pool.specs.declared.name.Ring.TheVariants.{Transmit}
 use Rattle.ibos_nic.specs.declared.limits.TheConstants.{DONE}

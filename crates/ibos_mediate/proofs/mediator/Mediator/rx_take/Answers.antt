@@ -1,4 +1,4 @@
-use Rattle.std.proofs.Common.{◌≡◌, ◌<◌, ◌≤◌, List, false, drop, refl, subst, sym, ◌∙◌, ap, arith}
+use Rattle.std.proofs.Common.{◌≡◌, ◌<◌, List, false, drop, subst, sym, ◌∙◌, ap, arith}
 use Rattle.ibos_pool.specs.declared.name.Ring.TheVariants.{Receive}
 use Rattle.ibos_mediate.specs.Mediated.{Mediated, RingView}
 use Rattle.ibos_mediate.specs.Relation.{IsAtDevice, IsInMemory, IsInPool, completed, held_for}

@@ -1,4 +1,4 @@
-use Rattle.std.proofs.Common.{◌≡◌, ◌<◌, ◌≤◌, false, refl, subst, sym, ◌∙◌, arith}
+use Rattle.std.proofs.Common.{◌≡◌, ◌<◌, false, refl, subst, sym, ◌∙◌, arith}
 use Rattle.ibos_pool.specs.declared.name.Ring.TheVariants.{Transmit}
 use Rattle.ibos_mediate.specs.Mediated.{Mediated, RingView}
 use Rattle.ibos_mediate.specs.Relation.{IsAtDevice, IsInMemory, IsInPool, completed, held_for}

@@ -1,5 +1,4 @@
-use Rattle.std.proofs.Common.{◌≡◌, sym, ◌∙◌, subst, ap}
-use Rattle.ibos_pool.specs.Names.{Names}
+use Rattle.std.proofs.Common.{sym, ◌∙◌, subst, ap}
 use Rattle.ibos_mediate.specs.Mediated.{Mediated}
 use Rattle.ibos_mediate.specs.Relation.{IsAtDevice, IsInMemory, IsInPool}
 use Rattle.ibos_mediate.proofs.DeviceLemmas.{device-written}

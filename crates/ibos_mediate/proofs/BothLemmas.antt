@@ -1,5 +1,5 @@
--- One of the two rings becomes another.
-use Rattle.std.proofs.Common.{◌≡◌, ◌≢◌, ℕ, ◌≤◌, List, length, refl, sym, ◌∙◌, ap, arith}
+-- The relation of each ring is that of both.
+use Rattle.std.proofs.Common.{◌≡◌, ◌≤◌, length, sym, ◌∙◌, ap}
 use Rattle.ibos_pool.specs.declared.name.Ring.{Ring}
 use Rattle.ibos_pool.specs.declared.name.Ring.TheVariants.{Receive, Transmit}
 use Rattle.ibos_pool.specs.declared.limits.TheConstants.{MOST_AREAS}
@@ -7,19 +7,6 @@ use Rattle.ibos_pool.specs.Memory.{Memory}
 use Rattle.ibos_nic.specs.Registers.{Registers}
 use Rattle.ibos_mediate.specs.Mediated.{Mediated, RingView}
 use Rattle.ibos_mediate.specs.Relation.{AreApart, IsAtDevice, IsInMemory, IsRingAtDevice, IsRingInMemory, completed, ring_of, slot_of}
-
--- the mediator with another ring, and other turns
-abbrev pub put_ring : Ring → RingView → List ℕ → Mediated → Mediated
-put_ring Receive r turns m = record { receive = r; transmit = m.transmit; turns = turns }
-put_ring Transmit r turns m = record { receive = m.receive; transmit = r; turns = turns }
-
--- what holds of the ring that was put, and of each other ring, holds of each
-pub of_each : (P : Ring → RingView → Type 0) (ring : Ring) (r : RingView) (turns : List ℕ) (m : Mediated)
-    → P ring r → ((other : Ring) → other ≢ ring → P other (ring_of m other)) → (one : Ring) → P one (ring_of (put_ring ring r turns m) one)
-of_each P Receive r turns m here there Receive = here
-of_each P Receive r turns m here there Transmit = there Transmit (λ e. let clash : Transmit ≡ Receive = e in cc)
-of_each P Transmit r turns m here there Receive = there Receive (λ e. let clash : Receive ≡ Transmit = e in cc)
-of_each P Transmit r turns m here there Transmit = here
 
 pub ring_in : (m : Mediated) (mem : Memory) (ring : Ring) → IsInMemory m mem → IsRingInMemory ring mem (ring_of m ring)
 ring_in m mem Receive in_memory = in_memory.receive
