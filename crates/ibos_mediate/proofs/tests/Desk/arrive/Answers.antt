@@ -1,8 +1,7 @@
-use Rattle.std.proofs.Common.{◌≡◌, ◌∷◌, ℕ, List, Result, Ok, Err, length, refl, ap, ◌∙◌}
+use Rattle.std.proofs.Common.{◌≡◌, ◌∷◌, ℕ, List, Result, Ok, Err, length, ap, ◌∙◌}
 use Rattle.ibos_kinds.specs.declared.names.Verdict.{Verdict}
 use Rattle.ibos_kinds.specs.declared.names.Verdict.TheVariants.{Filtered, Heard, Missed}
 use Rattle.ibos_kinds.specs.declared.bytes.Memory.{Memory as NoMemory}
-use Rattle.ibos_pool.specs.declared.place.Place.{Place}
 use Rattle.ibos_pool.specs.Memory.{Memory, is_lent_at}
 use Rattle.ibos_nic.specs.declared.log.LogEntry.{LogEntry}
 use Rattle.ibos_nic.specs.declared.log.LogEntry.TheVariants.{In}

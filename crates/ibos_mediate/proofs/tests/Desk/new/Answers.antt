@@ -1,4 +1,4 @@
-use Rattle.std.proofs.Common.{◌≡◌, ◌+◌, ◌<◌, ℕ, Result, Ok, length, subst, sym, ◌∙◌, ap, inl, inr, refl, arith}
+use Rattle.std.proofs.Common.{◌≡◌, ◌+◌, Result, Ok, length, subst, ◌∙◌, ap, inl, inr, refl, arith}
 use Rattle.std.specs.Prelude.{IfOk}
 use Rattle.ibos_kinds.specs.declared.bytes.Memory.{Memory as NoMemory}
 use Rattle.ibos_mediate.specs.Mediated.{Mediated, RingView}

@@ -1,4 +1,4 @@
-use Rattle.std.proofs.Common.{◌≡◌, Option, None, Some, subst, sym, ◌∙◌, arith}
+use Rattle.std.proofs.Common.{◌≡◌, Option, Some, subst, ◌∙◌, arith}
 use Rattle.std.specs.Prelude.{IfSome}
 use Rattle.ibos_pool.specs.Names.{Held, IsLoanOf}
 use Rattle.ibos_mediate.proofs.UnheldLemmas.{outbound-claimed, unheld-claimed}
