@@ -1,6 +1,6 @@
 -- The user's keys, clicks and looks, and the draws of pages, agree with their facts.
-use Rattle.std.proofs.Common.{◌≡◌, ◌≢◌, ℕ, ◌+◌, zero, suc, List, [], ◌∷◌, ◌++◌, Bool, true, false, ◌&&◌, Option, Some, None, Ok, Err, Result, refl, sym, ◌∙◌, ap, subst, arith, map}
-use Rattle.std.specs.Prelude.{if◌then◌else◌, bytes_eq, not, nat_lt, ◌-◌}
+use Rattle.std.proofs.Common.{◌≡◌, ℕ, ◌+◌, zero, suc, List, [], ◌++◌, Bool, true, false, ◌&&◌, Option, Some, None, Ok, Err, Result, refl, sym, ◌∙◌, ap, subst, arith, map}
+use Rattle.std.specs.Prelude.{if◌then◌else◌, not, nat_lt, ◌-◌}
 use Rattle.std.proofs.lemmas.Bool.Decides.{nat_tests}
 use Rattle.ibos_kinds.specs.declared.names.Instance.{Instance}
 use Rattle.ibos_kinds.specs.declared.names.Key.{Key}
@@ -16,13 +16,13 @@ use Rattle.ibos_origin.specs.Hosts.{HostTable}
 use Rattle.ibos_origin.specs.Pages.{Page, allowed}
 use Rattle.ibos_model.specs.Journal.{Journal, is_ok, same}
 use Rattle.ibos_model.specs.Focus.{focus_of, is_active}
-use Rattle.ibos_model.specs.Tabs.{Tabs, Change, tabs, Life, Unborn, Alive, Gone, changed_by, entering, if_ok, life_of, active_in, active_of}
+use Rattle.ibos_model.specs.Tabs.{Tabs, Change, tabs, Life, Unborn, Alive, Gone, changed_by, entering, if_ok, life_of, active_of}
 use Rattle.ibos_model.specs.Jars.{sets_of}
 use Rattle.ibos_model.specs.Screen.{screen, seen_row}
-use Rattle.ibos_model.specs.Rows.{accepted, denied, admitted, answer, page_key_row, enter_row, press_row, content_click_row, click_row, rows_from, look_row, draw_row, out}
+use Rattle.ibos_model.specs.Rows.{accepted, denied, admitted, answer, page_key_row, enter_row, content_click_row, rows_from, draw_row, out}
 use Rattle.ibos_model.specs.Facts.{Fact, KeyHit, ClickHit, when, change_facts}
 use Rattle.ibos_model.specs.Gives.{Mine, told, gives_from, mine_from}
-use Rattle.ibos_model.proofs.Folds.{same-true, same-refl}
+use Rattle.ibos_model.proofs.Folds.{same-true}
 use Rattle.ibos_model.proofs.Fresh.{IsSound, AllowsAll, changes_allowed}
 use Rattle.ibos_model.proofs.Changes.{item_of, mine_in, changes_told}
 use Rattle.ibos_model.proofs.Agrees.{mine_of, Agrees, answers, entry, told_own}

@@ -1,6 +1,6 @@
 -- A tab has one live instance, and an instance that started and has not ended is that of its tab.
-use Rattle.std.proofs.Common.{◌≡◌, ◌≢◌, ℕ, ◌+◌, ◌≤◌, List, [], ◌∷◌, Bool, true, false, Option, Some, None, Ok, Err, Result, refl, sym, ◌∙◌, ap, subst, arith}
-use Rattle.std.specs.Prelude.{if◌then◌else◌, bytes_eq, option_and_then, unwrap_or, nat_lt, ◌&&◌}
+use Rattle.std.proofs.Common.{◌≡◌, ◌≢◌, ℕ, List, [], ◌∷◌, Bool, true, false, Option, Some, None, Ok, Err, Result, refl, sym, ◌∙◌, ap, subst, arith}
+use Rattle.std.specs.Prelude.{if◌then◌else◌, bytes_eq, option_and_then, nat_lt, ◌&&◌}
 use Rattle.std.proofs.lemmas.Bool.Decides.{nat_tests}
 use Rattle.ibos_kinds.specs.declared.names.Instance.{Instance}
 use Rattle.ibos_kinds.specs.declared.names.Key.TheVariants.{Enter}
@@ -11,7 +11,7 @@ use Rattle.ibos_kinds.specs.declared.act.Act.TheVariants.{Start, Close, Press, G
 use Rattle.ibos_kinds.specs.declared.outcome.Outcome.{Outcome}
 use Rattle.ibos_origin.specs.Hosts.{HostTable}
 use Rattle.ibos_origin.specs.Pages.{Page, allowed}
-use Rattle.ibos_model.specs.Journal.{Entry, Journal, is_accepted, is_ok, same}
+use Rattle.ibos_model.specs.Journal.{Entry, Journal, is_accepted, is_ok}
 use Rattle.ibos_model.specs.Focus.{focus_of}
 use Rattle.ibos_model.specs.Tabs.{Tabs, Change, Opens, Moves, Ends, changed, changed_by, changes, opening, end, leave, entering, active_in, tabs, next_in, no_tabs, if_ok, life_with, origin_in}
 use Rattle.ibos_model.specs.Rows.{out, admitted, denied, open_row, start_row}

@@ -1,6 +1,6 @@
 -- Which acts leave the chrome's rows.
-use Rattle.std.proofs.Common.{◌≡◌, ◌≢◌, ℕ, zero, suc, ◌+◌, List, [], ◌∷◌, Bool, true, false, Option, Some, None, Ok, Err, Result, refl, sym, ◌∙◌, ap, subst, arith}
-use Rattle.std.specs.Prelude.{if◌then◌else◌, bytes_eq, option_and_then, ◌&&◌, ◌||◌, ◌==◌}
+use Rattle.std.proofs.Common.{◌≡◌, ℕ, zero, suc, [], ◌∷◌, Bool, true, false, Option, Some, None, Ok, Err, Result, refl, sym, ◌∙◌, ap, arith}
+use Rattle.std.specs.Prelude.{if◌then◌else◌, bytes_eq, option_and_then, ◌||◌, ◌==◌}
 use Rattle.std.proofs.lemmas.Bool.Decides.{nat_tests}
 use Rattle.ibos_kinds.specs.declared.names.Instance.{Instance}
 use Rattle.ibos_kinds.specs.declared.names.Key.TheVariants.{Byte, Enter, Back}
@@ -10,12 +10,11 @@ use Rattle.ibos_kinds.specs.declared.act.Act.TheVariants.{Start, Switch, Close, 
 use Rattle.ibos_kinds.specs.declared.outcome.Outcome.{Outcome}
 use Rattle.ibos_origin.specs.Hosts.{HostTable}
 use Rattle.ibos_origin.specs.Pages.{Page, allowed}
-use Rattle.ibos_model.specs.Journal.{Entry, Journal, is_accepted, is_ok, same}
+use Rattle.ibos_model.specs.Journal.{Journal, is_accepted, is_ok, same}
 use Rattle.ibos_model.specs.Focus.{Focus, focus_by, focus_of, is_active}
-use Rattle.ibos_model.specs.Tabs.{Tabs, Change, Opens, Moves, Ends, changed, changed_by, changes, leave, active_in, active_of, tabs, next_in, origin_in}
-use Rattle.ibos_model.specs.Screen.{bar_of, bar_text, chrome_in, chrome_of}
+use Rattle.ibos_model.specs.Tabs.{Tabs, Opens, Moves, Ends, changed, changed_by, changes, leave, active_in, active_of, tabs, next_in, origin_in}
+use Rattle.ibos_model.specs.Screen.{bar_of, bar_text, chrome_in}
 use Rattle.ibos_model.specs.Rows.{out}
-use Rattle.ibos_model.specs.Runs.{IsRun}
 use Rattle.ibos_model.specs.Laws.{IsChromeKept, is_users, goes_active}
 use Rattle.ibos_model.proofs.Alone.{IsAlone, admitted_lives, tabs_alone}
 
