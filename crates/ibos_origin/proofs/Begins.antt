@@ -1,5 +1,5 @@
 -- The serialization of an allowed URL begins with its origin.
-use Rattle.std.proofs.Common.{◌≡◌, ◌≢◌, ℕ, ◌++◌, List, [], ◌∷◌, Bool, true, false, not, cond, take, drop, Option, Some, None, Ok, Err, Result, refl, sym, ◌∙◌, ap, subst, append-nil, append_assoc, inl, inr, arith}
+use Rattle.std.proofs.Common.{◌≡◌, ℕ, ◌++◌, List, [], ◌∷◌, Bool, true, false, not, take, drop, Option, Some, None, Ok, Err, Result, refl, sym, ◌∙◌, ap, subst, append_assoc, inl, inr, arith}
 use Rattle.std.specs.Prelude.{◌^◌, ◌&&◌, ◌||◌, ◌==◌, nat_eq, nat_lt, length, if◌then◌else◌, is_some, unwrap_or, codes, decimal, bytes_eq, IfOk}
 use Rattle.std.specs.List.{concat, list_all}
 use Rattle.std.specs.Char.{is_ascii_digit}
@@ -12,7 +12,6 @@ use Rattle.std.proofs.lemmas.Slice.Eq.{bytes_eq-Decides}
 use Rattle.url.specs.declared.error.ParseError.TheVariants.{EmptyHost}
 use Rattle.url.specs.declared.host.Host.{Host}
 use Rattle.url.specs.declared.host.Host.TheVariants.{Domain}
-use Rattle.url.specs.declared.scheme.SchemeType.{SchemeType}
 use Rattle.url.specs.declared.scheme.SchemeType.TheVariants.{File, SpecialNotFile, NotSpecial}
 use Rattle.url.specs.Input.{is_empty, lowercase, split_once, rsplit_once}
 use Rattle.url.specs.Scheme.{default_port, scheme_type, is_special, is_file}
@@ -20,7 +19,7 @@ use Rattle.url.specs.Host.{host_text, parse_host, parse_file_host}
 use Rattle.url.specs.Parts.{Parts, kind_of, has_credentials, host_or_empty, pieces, serialize}
 use Rattle.url.specs.Path.{segment_len, is_windows_drive_letter, parse_path, parse_path_start, escape_end}
 use Rattle.url.specs.Head.{scheme_only, with_authority}
-use Rattle.url.specs.Parser.{Parsed, and_then, split_port, lacks_host, leading_slashes, without_default_port, parse_port, parse_authority, with_path, after_double_slash, parse_non_special, file_with_host, after_file_double_slash, parse_file, parse_not_file, parse_body, with_tail, end_path, before_tail, parse_parts, parse_by_scheme, split_scheme, parse_url}
+use Rattle.url.specs.Parser.{Parsed, and_then, split_port, lacks_host, leading_slashes, without_default_port, parse_port, parse_authority, with_path, after_double_slash, parse_non_special, file_with_host, after_file_double_slash, parse_file, parse_not_file, parse_body, with_tail, end_path, before_tail, parse_parts, parse_by_scheme, parse_url}
 use Rattle.url.specs.Origin.{is_http, origin_of, ascii_serialization}
 use Rattle.ibos_kinds.specs.declared.rule.Rule.{Rule}
 use Rattle.ibos_kinds.specs.declared.rule.Rule.TheVariants.{U4, U5, U6, U7, U8}
@@ -233,31 +232,32 @@ url_begins url web none is =
 
 -- ---- allowed URLs
 
-abbrev Begins : Page → Type 0
-Begins page = (rest : List ℕ) × (page.url ≡ page.origin ++ rest)
+-- the URL begins with the origin, which has at most 72 bytes
+abbrev pub Begins : Page → Type 0
+Begins page = ((rest : List ℕ) × (page.url ≡ page.origin ++ rest)) × (nat_lt 72 (length page.origin) ≡ false)
 
-page_begins : (url : Parts) (addr : Option ℕ) → serialize url ≡ origin_text url ++ tail_of url → IfOk (page_at url addr) Begins
-page_begins url None is = tt
-page_begins url (Some addr) is = (tail_of url, is)
+page_begins : (url : Parts) (addr : Option ℕ) → serialize url ≡ origin_text url ++ tail_of url → nat_lt 72 (length (origin_text url)) ≡ false → IfOk (page_at url addr) Begins
+page_begins url None is short = tt
+page_begins url (Some addr) is short = ((tail_of url, is), short)
 
 allowed_url_begins : (H : HostTable) (url : Parts) → Suits url → IfOk (allowed_url H url) Begins
 unfolding allowed_url
 allowed_url_begins H url suits =
-    by_tests (is_http url.scheme) (has_credentials url) _ _ (λ web none. page_begins url (address_at H (host_of url)) (url_begins url web none (suits web)))
+    by_tests (is_http url.scheme) (has_credentials url) _ (nat_lt 72 (length (origin_text url))) (λ web none. page_begins url (address_at H (host_of url)) (url_begins url web none (suits web)))
   where
-    by_tests : (web credentials long_url long_origin : Bool) → (web ≡ true → credentials ≡ false → IfOk (page_at url (address_at H (host_of url))) Begins)
+    by_tests : (web credentials long_url long_origin : Bool) → (web ≡ true → credentials ≡ false → long_origin ≡ false → IfOk (page_at url (address_at H (host_of url))) Begins)
         → IfOk (if not web then Err U5 else if credentials then Err U6 else if long_url then Err U7 else if long_origin then Err U8 else page_at url (address_at H (host_of url))) Begins
     by_tests false credentials long_url long_origin begins = tt
     by_tests true true long_url long_origin begins = tt
     by_tests true false true long_origin begins = tt
     by_tests true false false true begins = tt
-    by_tests true false false false begins = begins refl refl
+    by_tests true false false false begins = begins refl refl refl
 
 allowed_parsed_begins : (H : HostTable) (r : Parsed Parts) → IfOk r Suits → IfOk (allowed_parsed H r) Begins
 allowed_parsed_begins H (Err error) suits = tt
 allowed_parsed_begins H (Ok url) suits = allowed_url_begins H url suits
 
-allowed_begins : (H : HostTable) (text : List ℕ) → IfOk (allowed H text) Begins
+pub allowed_begins : (H : HostTable) (text : List ℕ) → IfOk (allowed H text) Begins
 unfolding allowed
 allowed_begins H text = by_test (is_utf8 text)
   where
@@ -267,4 +267,6 @@ allowed_begins H text = by_test (is_utf8 text)
 
 -- the URL of an allowed page begins with its origin
 pub begins_with_origin : (H : HostTable) (text : List ℕ) (page : Page) → allowed H text ≡ Ok page → (rest : List ℕ) × (page.url ≡ page.origin ++ rest)
-begins_with_origin H text page is = subst (λ (r : Result Page Rule). IfOk r Begins) is (allowed_begins H text)
+begins_with_origin H text page is =
+    let begins : Begins page = subst (λ (r : Result Page Rule). IfOk r Begins) is (allowed_begins H text) in
+    begins.0
