@@ -9,3 +9,4 @@ pub mod AgreeInput
 pub mod Isolated
 pub mod Alone
 pub mod Chrome
+pub mod Shown

@@ -2,7 +2,7 @@
 //! run here: each function is a law, which its contract states.
 #![tactic(auto)]
 
-ghost use Rattle.ibos_model.specs.Laws.{IsIsolated, IsIsolatedOverTwo, IsCarriedAlways, IsChromeKept};
+ghost use Rattle.ibos_model.specs.Laws.{IsIsolated, IsIsolatedOverTwo, IsCarriedAlways, IsChromeKept, IsOriginShown};
 
 /// In every run each instance is told what the facts that concern it give, whatever else happens.
 pub fn isolation()
@@ -23,4 +23,9 @@ pub fn isolation_of_each_entry()
 /// instance: no denied act, draw or act of a network process reaches them.
 pub fn chrome_is_kept()
     ensures { IsChromeKept }
+{}
+
+/// The address bar begins with the active instance's origin, whole, whatever the length of its URL.
+pub fn origins_show_whole()
+    ensures { IsOriginShown }
 {}

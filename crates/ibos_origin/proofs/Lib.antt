@@ -4,3 +4,4 @@ mod Cuts
 mod Macs
 mod Dotted
 mod Tabled
+pub mod Begins

@@ -1,0 +1,132 @@
+-- The address bar begins with the active instance's whole origin.
+use Rattle.std.proofs.Common.{◌≡◌, ℕ, zero, suc, ◌≤◌, List, [], ◌∷◌, ◌++◌, Bool, true, false, Option, Some, None, Ok, Err, Result, refl, sym, ◌∙◌, ap, subst, append_assoc, arith}
+use Rattle.std.specs.Prelude.{if◌then◌else◌, bytes_eq, nat_lt, ◌&&◌, length, take, map, codes, IfOk}
+use Rattle.std.proofs.lemmas.Bool.Decides.{nat_tests}
+use Rattle.std.proofs.lemmas.Slice.Eq.{bytes_eq-Decides}
+use Rattle.ibos_kinds.specs.declared.names.Instance.{Instance}
+use Rattle.ibos_kinds.specs.declared.names.Key.TheVariants.{Enter}
+use Rattle.ibos_kinds.specs.declared.rule.Rule.{Rule}
+use Rattle.ibos_kinds.specs.declared.act.Act.{Act}
+use Rattle.ibos_kinds.specs.declared.act.Act.TheVariants.{Start, Close, Press, Go}
+use Rattle.ibos_kinds.specs.Screens.{columns}
+use Rattle.ibos_origin.specs.Hosts.{HostTable}
+use Rattle.ibos_origin.specs.Pages.{Page, allowed}
+use Rattle.ibos_origin.proofs.Begins.{Begins, allowed_begins}
+use Rattle.ibos_model.specs.Journal.{Journal, is_accepted, same}
+use Rattle.ibos_model.specs.Focus.{focus_of}
+use Rattle.ibos_model.specs.Tabs.{Tabs, Change, Opens, Moves, Ends, changed, changed_by, changes, opening, end, leave, entering, active_in, active_of, tabs, next_in, no_tabs, if_ok, origin_with, origin_in}
+use Rattle.ibos_model.specs.Screen.{shown_byte, bar_text, bar_of}
+use Rattle.ibos_model.specs.Laws.{IsOriginShown}
+use Rattle.ibos_model.proofs.Folds.{same-true}
+
+-- the URL begins with the origin, which has at most 72 bytes
+abbrev Fits : List ℕ → List ℕ → Type 0
+Fits origin url = ((rest : List ℕ) × (url ≡ origin ++ rest)) × (nat_lt 72 (length origin) ≡ false)
+
+abbrev AllFit : Tabs → Type 0
+AllFit t = (p : Instance) → Fits (origin_in t p) (t.url p)
+
+-- ---- changes
+
+abbrev Keeps : Tabs → Change → Type 0
+Keeps t (Opens who page) = Fits page.origin page.url
+Keeps t (Moves who url) = Fits (origin_in t who) url
+Keeps t (Ends who) = Unit {0}
+
+opened_fits : (t : Tabs) (page : Page) (p : Instance) (here : Bool) → Fits page.origin page.url → Fits (origin_in t p) (t.url p)
+    → Fits (origin_with (if here then Some page else t.page p)) (if here then page.url else t.url p)
+opened_fits t page p true new old = new
+opened_fits t page p false new old = old
+
+moved_fits : (t : Tabs) (who p : Instance) (url : List ℕ) (here : Bool) → same who p ≡ here → Fits (origin_in t who) url → Fits (origin_in t p) (t.url p)
+    → Fits (origin_in t p) (if here then url else t.url p)
+moved_fits t who p url true is new old = subst (λ (q : Instance). Fits (origin_in t q) url) (same-true who p is) new
+moved_fits t who p url false is new old = old
+
+changed_fit : (t : Tabs) (c : Change) → AllFit t → Keeps t c → AllFit (changed t c)
+changed_fit t (Opens who page) fit keeps p = opened_fits t page p (same who p) keeps (fit p)
+changed_fit t (Moves who url) fit keeps p = moved_fits t who p url (same who p) refl keeps (fit p)
+changed_fit t (Ends who) fit keeps p = fit p
+
+abbrev KeepsAll : Tabs → List Change → Type 0
+KeepsAll t [] = Unit {0}
+KeepsAll t (c ∷ cs) = Keeps t c × KeepsAll (changed t c) cs
+
+changed_by_fit : (t : Tabs) (cs : List Change) → AllFit t → KeepsAll t cs → AllFit (changed_by t cs)
+changed_by_fit t [] fit keeps = fit
+changed_by_fit t (c ∷ cs) fit keeps = changed_by_fit (changed t c) cs (changed_fit t c fit keeps.0) keeps.1
+
+-- ---- the changes of acts
+
+if_ok_keeps : (t : Tabs) (ok : Bool) (cs : List Change) → KeepsAll t cs → KeepsAll t (if_ok ok cs)
+if_ok_keeps t true cs keeps = keeps
+if_ok_keeps t false cs keeps = tt
+
+opening_keeps : (t : Tabs) (tab : ℕ) (r : Result Page Rule) → IfOk r Begins → KeepsAll t (opening t tab r)
+opening_keeps t tab (Ok page) begins = (begins, tt)
+opening_keeps t tab (Err rule) begins = tt
+
+end_keeps : (t : Tabs) (live : Option Instance) → KeepsAll t (end live)
+end_keeps t None = tt
+end_keeps t (Some who) = (tt, tt)
+
+leave_keeps : (t : Tabs) (who : Instance) (r : Result Page Rule) → IfOk r Begins → KeepsAll t (leave t who r)
+leave_keeps t who (Err rule) begins = tt
+leave_keeps t who (Ok page) begins = either (bytes_eq page.origin (origin_in t who)) refl
+  where
+    either : (b : Bool) → bytes_eq page.origin (origin_in t who) ≡ b → KeepsAll t (if b then Moves who page.url ∷ [] else Ends who ∷ Opens (next_in t who.tab) page ∷ [])
+    either true is = (subst (λ (o : List ℕ). Fits o page.url) ((bytes_eq-Decides page.origin (origin_in t who)).0 is) begins, tt)
+    either false is = (tt, (begins, tt))
+
+entering_keeps : (t : Tabs) (active : Option Instance) (r : Result Page Rule) → IfOk r Begins → KeepsAll t (entering t active r)
+entering_keeps t None r begins = tt
+entering_keeps t (Some who) r begins = leave_keeps t who r begins
+
+changes_keep : (H : HostTable) (J : Journal) (ok : Bool) (a : Act) → KeepsAll (tabs H J) (changes H (tabs H J) (focus_of J) ok a)
+changes_keep H J ok (Start tab url) = if_ok_keeps (tabs H J) ok (opening (tabs H J) tab (allowed H url)) (opening_keeps (tabs H J) tab (allowed H url) (allowed_begins H url))
+changes_keep H J ok (Close tab) = if_ok_keeps (tabs H J) ok (end ((tabs H J).live tab)) (end_keeps (tabs H J) ((tabs H J).live tab))
+changes_keep H J ok (Press Enter) = if_ok_keeps (tabs H J) (ok && (focus_of J).at_entry) (entering (tabs H J) (active_in (tabs H J) (focus_of J)) (allowed H (focus_of J).entry))
+    (entering_keeps (tabs H J) (active_in (tabs H J) (focus_of J)) (allowed H (focus_of J).entry) (allowed_begins H (focus_of J).entry))
+changes_keep H J ok (Go who url) = if_ok_keeps (tabs H J) ok (leave (tabs H J) who (allowed H url)) (leave_keeps (tabs H J) who (allowed H url) (allowed_begins H url))
+changes_keep H J ok other = tt
+
+tabs_fit : (H : HostTable) (J : Journal) → AllFit (tabs H J)
+unfolding tabs
+tabs_fit H [] = λ p. (([], refl), refl)
+tabs_fit H (e ∷ J) = changed_by_fit (tabs H J) (changes H (tabs H J) (focus_of J) (is_accepted e) e.act) (tabs_fit H J) (changes_keep H J (is_accepted e) e.act)
+
+-- ---- the bar
+
+front : (f : ℕ → ℕ) (o more : List ℕ) → take (length o) (map f (o ++ more)) ≡ map f o
+front f [] more = refl
+front f (x ∷ o) more = ap (λ t. f x ∷ t) (front f o more)
+
+cut : (o rest : List ℕ) (n : ℕ) → length o ≤ n → (more : List ℕ) × (take n (o ++ rest) ≡ o ++ more)
+cut [] rest n h = (take n rest, refl)
+cut (x ∷ o) rest zero h = absurd (omega (arith, h))
+cut (x ∷ o) rest (suc n) h =
+    let next = cut o rest n (omega (arith, h)) in
+    (next.0, ap (λ t. x ∷ t) next.1)
+
+short : (o : List ℕ) → nat_lt 72 (length o) ≡ false → length o ≤ 79
+short o h = grind (arith, nat_tests, h)
+
+either_fits : (o rest : List ℕ) (long : Bool) → length o ≤ 79 → (more : List ℕ) × ((if long then take 79 (o ++ rest) ++ codes ">" else o ++ rest) ≡ o ++ more)
+either_fits o rest false h = (rest, refl)
+either_fits o rest true h =
+    let part = cut o rest 79 h in
+    (part.0 ++ codes ">", ap (λ t. t ++ codes ">") part.1 ∙ append_assoc o part.0 (codes ">"))
+
+bar_begins : (o url : List ℕ) → Fits o url → take (length o) (bar_text url) ≡ map shown_byte o
+unfolding bar_text
+bar_begins o url fits =
+    let rest = fits.0.0 in
+    let part = either_fits o rest (nat_lt columns (length (o ++ rest))) (short o fits.1) in
+    ap (λ (u : List ℕ). take (length o) (map shown_byte (if nat_lt columns (length u) then take 79 u ++ codes ">" else u))) fits.0.1
+    ∙ ap (λ (u : List ℕ). take (length o) (map shown_byte u)) part.1
+    ∙ front shown_byte o part.0
+
+pub origin_shown : IsOriginShown
+origin_shown H J who active =
+    ap (λ (a : Option Instance). take (length (origin_in (tabs H J) who)) (bar_of (tabs H J) a)) active
+    ∙ bar_begins (origin_in (tabs H J) who) ((tabs H J).url who) (tabs_fit H J who)
