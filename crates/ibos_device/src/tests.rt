@@ -304,41 +304,62 @@ fn post_to_send(mem: &mut Mem, away: &Away, length: u16)
     mem.ring_put(Ring::Transmit, 0, &bytes);
 }
 
-#[test]
-fn a_frame_is_sent_once(rt: HostRuntime) -> Result<(), Fail> {
-    let mut nic = Model8254x::new(rt.alloc());
-    let mut pool = Pool::new(rt.alloc())?;
-    let mut mem = Mem::new(rt.alloc())?;
-    let away = lent(&rt, &mut pool, &mut mem);
-    set_up(&rt, &mut nic, &mem);
+// A frame is heard, and as many bytes as were written for it are sent, once.
+fn sends_once<N: Nic>(
+    rt: &impl Abort,
+    alloc: Global,
+    nic: &mut N,
+    length: u16,
+    after: &[u8; 16],
+) -> Result<(), Fail> {
+    let mut pool = Pool::new(alloc)?;
+    let mut mem = Mem::new(alloc)?;
+    let away = lent(rt, &mut pool, &mut mem);
+    set_up(rt, nic, &mem);
     nic.write(Reg::Rctl, 0x0400_8002, &mem);
-    let verdict = round(&rt, rt.alloc(), &mut nic, TCP_FRAME, &mut mem, &away);
+    let verdict = round(rt, alloc, nic, TCP_FRAME, &mut mem, &away);
     assert!(rt; verdict == Verdict::Heard);
     nic.write(Reg::Tdbal, 0x0010_1000, &mem);
     nic.write(Reg::Tdlen, 0x400, &mem);
     nic.write(Reg::Tctl, 2, &mem);
+    assert!(rt; !transmit(rt, alloc, nic, &mut mem), "nothing is rung");
+    post_to_send(&mut mem, &away, length);
+    ring_to_send(rt, nic, &mem);
+    assert!(rt; transmit(rt, alloc, nic, &mut mem));
     assert!(rt;
-        !transmit(&rt, rt.alloc(), &mut nic, &mut mem),
-        "nothing is rung"
-    );
-    post_to_send(&mut mem, &away, 57);
-    ring_to_send(&rt, &mut nic, &mem);
-    assert!(rt; transmit(&rt, rt.alloc(), &mut nic, &mut mem));
-    assert!(rt;
-        !transmit(&rt, rt.alloc(), &mut nic, &mut mem),
+        !transmit(rt, alloc, nic, &mut mem),
         "the head is at the tail"
     );
     let mut bytes = [0; 16];
     mem.ring_get(Ring::Transmit, 0, &mut bytes);
-    assert!(rt; &bytes == b"\x00\x48\x10\0\0\0\0\0\x39\0\0\x0b\x01\0\0\0");
+    assert!(rt; &bytes == after);
     assert_eq!(rt; (nic.read(Reg::Tdh), nic.read(Reg::Icr)), (1, 0x81));
-    match nic.log() {
+    let loan = mem.regain(away);
+    pool.give(loan);
+    Ok(())
+}
+
+fn assert_sent(rt: &impl Abort, log: &[LogEntry], frame: &[u8]) {
+    match log {
         [LogEntry::In { .. }, LogEntry::Out { sent }] => {
-            assert!(rt; sent.as_slice() == TCP_FRAME.as_slice());
+            assert!(rt; sent.as_slice() == frame);
         }
         _ => assert!(rt; false, "one frame was heard and then sent"),
     }
-    let loan = mem.regain(away);
-    pool.give(loan);
+}
+
+#[test]
+fn both_devices_send_a_frame_once(rt: HostRuntime) -> Result<(), Fail> {
+    let mut model = Model8254x::new(rt.alloc());
+    let after = b"\x00\x48\x10\0\0\0\0\0\x39\0\0\x0b\x01\0\0\0";
+    sends_once(&rt, rt.alloc(), &mut model, 57, after)?;
+    assert_sent(&rt, model.log(), TCP_FRAME);
+    let mut bytes = Bytes::new(rt.alloc());
+    bytes.push_slice(UDP_FRAME).expect(&rt, "memory");
+    assert_eq!(rt; bytes.len(), 44);
+    let mut noisy = Noisy::new(rt.alloc(), bytes);
+    let after = b"\x00\x48\x10\0\0\0\0\0\x2c\0\0\x0b\x01\0\0\0";
+    sends_once(&rt, rt.alloc(), &mut noisy, 44, after)?;
+    assert_sent(&rt, noisy.log(), UDP_FRAME);
     Ok(())
 }
