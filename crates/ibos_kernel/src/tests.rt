@@ -91,52 +91,20 @@ fn press(
     Ok(())
 }
 
-// Compares a row of the screen with a text and the spaces behind it.
-fn shows(rt: &impl Abort, kernel: &Kernel, row: usize, text: &[u8]) {
-    let pixels = kernel.pixels();
-    assert!(rt; row < 25 && text.len() <= 80);
-    let cells = &pixels[80 * row..80 * row + 80];
-    assert_eq!(rt; &cells[..text.len()], text);
-    assert!(rt; cells[text.len()..].iter().all(|cell| *cell == b' '));
-}
-
 #[test]
-fn the_entry_line_has_an_end_and_outlives_tabs(rt: HostRuntime) -> Result<(), Fail> {
+fn the_entry_line_has_an_end(rt: HostRuntime) -> Result<(), Fail> {
     let alloc = rt.alloc();
     let mut kernel = Kernel::new(alloc, Hosts::read(alloc, HOSTS)?)?;
-    shows(&rt, &kernel, 0, b"no tab");
-    let key = Key::Enter;
-    press(&rt, alloc, &mut kernel, key, 1, Head::Denied(Rule::U10))?;
-    press(&rt, alloc, &mut kernel, Key::Back, 1, Head::Ok)?;
-    press(&rt, alloc, &mut kernel, Key::Byte(b'h'), 1, Head::Ok)?;
-    press(&rt, alloc, &mut kernel, Key::Byte(b'a'), 79, Head::Ok)?;
-    let mut row = [b'a'; 80];
-    row[0] = b'h';
-    shows(&rt, &kernel, 2, &row);
-    press(&rt, alloc, &mut kernel, Key::Byte(b'b'), 1, Head::Ok)?;
-    row[0] = b'<';
-    row[79] = b'b';
-    shows(&rt, &kernel, 2, &row);
-    press(&rt, alloc, &mut kernel, Key::Byte(b'a'), 943, Head::Ok)?;
-    let key = Key::Byte(b'a');
-    press(&rt, alloc, &mut kernel, key, 1, Head::Denied(Rule::U11))?;
-    press(&rt, alloc, &mut kernel, Key::Back, 943, Head::Ok)?;
-    shows(&rt, &kernel, 2, &row);
-
-    // The text stays over open and close, and keys go to the page in between.
-    let url = bytes(alloc, b"http://a.example/")?;
-    let mut out = Outcome::new(alloc);
-    for act in [Act::Start { tab: 0, url }, Act::Close { tab: 0 }] {
-        assert!(rt; kernel.usable() && kernel.acts() < 10_000 && act.fits());
-        kernel.step(alloc, &act, &mut out)?;
-        assert_eq!(rt; out.head, Head::Ok);
-        shows(&rt, &kernel, 2, &row);
-        press(&rt, alloc, &mut kernel, Key::Back, 1, Head::Ok)?;
+    for (key, times, head) in [
+        (Key::Enter, 1, Head::Denied(Rule::U10)),
+        (Key::Back, 1, Head::Ok),
+        (Key::Byte(b'h'), 1, Head::Ok),
+        (Key::Byte(b'a'), 1023, Head::Ok),
+        (Key::Byte(b'a'), 1, Head::Denied(Rule::U11)),
+    ] {
+        press(&rt, alloc, &mut kernel, key, times, head)?;
     }
-    shows(&rt, &kernel, 0, b"no tab");
-    shows(&rt, &kernel, 1, b"");
-    row[0] = b'h';
-    row[79] = b'a';
-    shows(&rt, &kernel, 2, &row);
+    let row = &kernel.pixels()[160..240];
+    assert!(rt; row[0] == b'<' && row[1..].iter().all(|cell| *cell == b'a'));
     Ok(())
 }

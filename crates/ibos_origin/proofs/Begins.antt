@@ -54,9 +54,9 @@ then_reads P (Err e) next holds later = record { holds = tt }
 
 by_web : (P : List ℕ → Type 0) → P (codes "http") → P (codes "https") → (scheme : List ℕ) → is_http scheme ≡ true → P scheme
 by_web P plain secure scheme web = elim (cases_Bool (bytes_eq scheme (codes "http"))) [
-    | inl is ↦ subst P (sym ((bytes_eq-Decides scheme (codes "http")).0 is)) plain
-    | inr other ↦ subst P (sym ((bytes_eq-Decides scheme (codes "https")).0 (second _ _ web other))) secure
-  ]
+  | inl is ↦ subst P (sym ((bytes_eq-Decides scheme (codes "http")).0 is)) plain
+  | inr other ↦ subst P (sym ((bytes_eq-Decides scheme (codes "https")).0 (second _ _ web other))) secure
+]
   where
     second : (a b : Bool) → (a || b) ≡ true → a ≡ false → b ≡ true
     second true b h k = cc
