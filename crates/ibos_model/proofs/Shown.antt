@@ -8,10 +8,13 @@ use Rattle.ibos_kinds.specs.declared.names.Key.TheVariants.{Enter}
 use Rattle.ibos_kinds.specs.declared.rule.Rule.{Rule}
 use Rattle.ibos_kinds.specs.declared.act.Act.{Act}
 use Rattle.ibos_kinds.specs.declared.act.Act.TheVariants.{Start, Close, Press, Go}
-use Rattle.ibos_kinds.specs.Screens.{columns}
+use Rattle.std.specs.List.{list_all}
+use Rattle.ibos_kinds.specs.Screens.{columns, is_pixel}
 use Rattle.ibos_origin.specs.Hosts.{HostTable}
 use Rattle.ibos_origin.specs.Pages.{Page, allowed}
+use Rattle.ibos_origin.specs.Tables.{HasPlainNames}
 use Rattle.ibos_origin.proofs.Begins.{Begins, allowed_begins}
+use Rattle.ibos_origin.proofs.Plain.{allowed_plain}
 use Rattle.ibos_model.specs.Journal.{Journal, is_accepted, same}
 use Rattle.ibos_model.specs.Focus.{focus_of}
 use Rattle.ibos_model.specs.Tabs.{Tabs, Change, Opens, Moves, Ends, changed, changed_by, changes, opening, end, leave, entering, active_in, active_of, tabs, next_in, no_tabs, if_ok, origin_with, origin_in}
@@ -19,9 +22,19 @@ use Rattle.ibos_model.specs.Screen.{shown_byte, bar_text, bar_of}
 use Rattle.ibos_model.specs.Laws.{IsOriginShown}
 use Rattle.ibos_model.proofs.Folds.{same-true}
 
--- the URL begins with the origin, which has at most 72 bytes
+-- the URL begins with the origin, which has at most 72 bytes, and these are printable
 abbrev Fits : List ℕ → List ℕ → Type 0
-Fits origin url = ((rest : List ℕ) × (url ≡ origin ++ rest)) × (nat_lt 72 (length origin) ≡ false)
+Fits origin url = (((rest : List ℕ) × (url ≡ origin ++ rest)) × (nat_lt 72 (length origin) ≡ false)) × (list_all is_pixel origin ≡ true)
+
+abbrev IsFit : Page → Type 0
+IsFit page = Begins page × (list_all is_pixel page.origin ≡ true)
+
+allowed_fit : (H : HostTable) (text : List ℕ) → HasPlainNames H → IfOk (allowed H text) IsFit
+allowed_fit H text plain = by_page (allowed H text) (allowed_begins H text) (allowed_plain H text plain)
+  where
+    by_page : (r : Result Page Rule) → IfOk r Begins → IfOk r (λ page. list_all is_pixel page.origin ≡ true) → IfOk r IsFit
+    by_page (Ok page) begins is = (begins, is)
+    by_page (Err rule) begins is = tt
 
 abbrev AllFit : Tabs → Type 0
 AllFit t = (p : Instance) → Fits (origin_in t p) (t.url p)
@@ -62,7 +75,7 @@ if_ok_keeps : (t : Tabs) (ok : Bool) (cs : List Change) → KeepsAll t cs → Ke
 if_ok_keeps t true cs keeps = keeps
 if_ok_keeps t false cs keeps = tt
 
-opening_keeps : (t : Tabs) (tab : ℕ) (r : Result Page Rule) → IfOk r Begins → KeepsAll t (opening t tab r)
+opening_keeps : (t : Tabs) (tab : ℕ) (r : Result Page Rule) → IfOk r IsFit → KeepsAll t (opening t tab r)
 opening_keeps t tab (Ok page) begins = (begins, tt)
 opening_keeps t tab (Err rule) begins = tt
 
@@ -70,7 +83,7 @@ end_keeps : (t : Tabs) (live : Option Instance) → KeepsAll t (end live)
 end_keeps t None = tt
 end_keeps t (Some who) = (tt, tt)
 
-leave_keeps : (t : Tabs) (who : Instance) (r : Result Page Rule) → IfOk r Begins → KeepsAll t (leave t who r)
+leave_keeps : (t : Tabs) (who : Instance) (r : Result Page Rule) → IfOk r IsFit → KeepsAll t (leave t who r)
 leave_keeps t who (Err rule) begins = tt
 leave_keeps t who (Ok page) begins = either (bytes_eq page.origin (origin_in t who)) refl
   where
@@ -78,22 +91,22 @@ leave_keeps t who (Ok page) begins = either (bytes_eq page.origin (origin_in t w
     either true is = (subst (λ (o : List ℕ). Fits o page.url) ((bytes_eq-Decides page.origin (origin_in t who)).0 is) begins, tt)
     either false is = (tt, (begins, tt))
 
-entering_keeps : (t : Tabs) (active : Option Instance) (r : Result Page Rule) → IfOk r Begins → KeepsAll t (entering t active r)
+entering_keeps : (t : Tabs) (active : Option Instance) (r : Result Page Rule) → IfOk r IsFit → KeepsAll t (entering t active r)
 entering_keeps t None r begins = tt
 entering_keeps t (Some who) r begins = leave_keeps t who r begins
 
-changes_keep : (H : HostTable) (J : Journal) (ok : Bool) (a : Act) → KeepsAll (tabs H J) (changes H (tabs H J) (focus_of J) ok a)
-changes_keep H J ok (Start tab url) = if_ok_keeps (tabs H J) ok (opening (tabs H J) tab (allowed H url)) (opening_keeps (tabs H J) tab (allowed H url) (allowed_begins H url))
-changes_keep H J ok (Close tab) = if_ok_keeps (tabs H J) ok (end ((tabs H J).live tab)) (end_keeps (tabs H J) ((tabs H J).live tab))
-changes_keep H J ok (Press Enter) = if_ok_keeps (tabs H J) (ok && (focus_of J).at_entry) (entering (tabs H J) (active_in (tabs H J) (focus_of J)) (allowed H (focus_of J).entry))
-    (entering_keeps (tabs H J) (active_in (tabs H J) (focus_of J)) (allowed H (focus_of J).entry) (allowed_begins H (focus_of J).entry))
-changes_keep H J ok (Go who url) = if_ok_keeps (tabs H J) ok (leave (tabs H J) who (allowed H url)) (leave_keeps (tabs H J) who (allowed H url) (allowed_begins H url))
-changes_keep H J ok other = tt
+changes_keep : (H : HostTable) → HasPlainNames H → (J : Journal) (ok : Bool) (a : Act) → KeepsAll (tabs H J) (changes H (tabs H J) (focus_of J) ok a)
+changes_keep H plain J ok (Start tab url) = if_ok_keeps (tabs H J) ok (opening (tabs H J) tab (allowed H url)) (opening_keeps (tabs H J) tab (allowed H url) (allowed_fit H url plain))
+changes_keep H plain J ok (Close tab) = if_ok_keeps (tabs H J) ok (end ((tabs H J).live tab)) (end_keeps (tabs H J) ((tabs H J).live tab))
+changes_keep H plain J ok (Press Enter) = if_ok_keeps (tabs H J) (ok && (focus_of J).at_entry) (entering (tabs H J) (active_in (tabs H J) (focus_of J)) (allowed H (focus_of J).entry))
+    (entering_keeps (tabs H J) (active_in (tabs H J) (focus_of J)) (allowed H (focus_of J).entry) (allowed_fit H (focus_of J).entry plain))
+changes_keep H plain J ok (Go who url) = if_ok_keeps (tabs H J) ok (leave (tabs H J) who (allowed H url)) (leave_keeps (tabs H J) who (allowed H url) (allowed_fit H url plain))
+changes_keep H plain J ok other = tt
 
-tabs_fit : (H : HostTable) (J : Journal) → AllFit (tabs H J)
+tabs_fit : (H : HostTable) → HasPlainNames H → (J : Journal) → AllFit (tabs H J)
 unfolding tabs
-tabs_fit H [] = λ p. (([], refl), refl)
-tabs_fit H (e ∷ J) = changed_by_fit (tabs H J) (changes H (tabs H J) (focus_of J) (is_accepted e) e.act) (tabs_fit H J) (changes_keep H J (is_accepted e) e.act)
+tabs_fit H plain [] = λ p. ((([], refl), refl), refl)
+tabs_fit H plain (e ∷ J) = changed_by_fit (tabs H J) (changes H (tabs H J) (focus_of J) (is_accepted e) e.act) (tabs_fit H plain J) (changes_keep H plain J (is_accepted e) e.act)
 
 -- ---- the bar
 
@@ -117,16 +130,26 @@ either_fits o rest true h =
     let part = cut o rest 79 h in
     (part.0 ++ codes ">", ap (λ t. t ++ codes ">") part.1 ∙ append_assoc o part.0 (codes ">"))
 
-bar_begins : (o url : List ℕ) → Fits o url → take (length o) (bar_text url) ≡ map shown_byte o
+-- a printable text is shown as it is
+shown_whole : (o : List ℕ) → list_all is_pixel o ≡ true → map shown_byte o ≡ o
+shown_whole [] is = refl
+shown_whole (b ∷ o) is = by_first (is_pixel b) refl (λ rest. shown_whole o rest) is
+  where
+    by_first : (first : Bool) → is_pixel b ≡ first → (list_all is_pixel o ≡ true → map shown_byte o ≡ o) → (first && list_all is_pixel o) ≡ true → shown_byte b ∷ map shown_byte o ≡ b ∷ o
+    by_first true h others rest = rw (h, others rest) refl
+    by_first false h others rest = cc
+
+bar_begins : (o url : List ℕ) → Fits o url → take (length o) (bar_text url) ≡ o
 unfolding bar_text
 bar_begins o url fits =
-    let rest = fits.0.0 in
-    let part = either_fits o rest (nat_lt columns (length (o ++ rest))) (short o fits.1) in
-    ap (λ (u : List ℕ). take (length o) (map shown_byte (if nat_lt columns (length u) then take 79 u ++ codes ">" else u))) fits.0.1
+    let rest = fits.0.0.0 in
+    let part = either_fits o rest (nat_lt columns (length (o ++ rest))) (short o fits.0.1) in
+    ap (λ (u : List ℕ). take (length o) (map shown_byte (if nat_lt columns (length u) then take 79 u ++ codes ">" else u))) fits.0.0.1
     ∙ ap (λ (u : List ℕ). take (length o) (map shown_byte u)) part.1
     ∙ front shown_byte o part.0
+    ∙ shown_whole o fits.1
 
 pub origin_shown : IsOriginShown
-origin_shown H J who active =
+origin_shown H J who plain active =
     ap (λ (a : Option Instance). take (length (origin_in (tabs H J) who)) (bar_of (tabs H J) a)) active
-    ∙ bar_begins (origin_in (tabs H J) who) ((tabs H J).url who) (tabs_fit H J who)
+    ∙ bar_begins (origin_in (tabs H J) who) ((tabs H J).url who) (tabs_fit H plain J who)

@@ -1,13 +1,14 @@
 -- The laws of journals.
-use Rattle.std.specs.Prelude.{ℕ, ◌≡◌, List, ◌∷◌, ◌++◌, Bool, true, false, ◌&&◌, ◌||◌, length, take, map, Option, Some}
+use Rattle.std.specs.Prelude.{ℕ, ◌≡◌, List, ◌∷◌, ◌++◌, Bool, true, false, ◌&&◌, ◌||◌, length, take, Option, Some}
 use Rattle.ibos_kinds.specs.declared.names.Instance.{Instance}
 use Rattle.ibos_kinds.specs.declared.act.Act.{Act}
 use Rattle.ibos_origin.specs.Hosts.{HostTable}
+use Rattle.ibos_origin.specs.Tables.{HasPlainNames}
 use Rattle.ibos_kinds.specs.declared.act.Act.TheVariants.{Start, Switch, Close, Press, Click, Look, Go}
 use Rattle.ibos_model.specs.Journal.{Entry, Journal, is_accepted}
 use Rattle.ibos_model.specs.Focus.{is_active}
 use Rattle.ibos_model.specs.Tabs.{origin_of, active_of}
-use Rattle.ibos_model.specs.Screen.{shown_byte, chrome_of}
+use Rattle.ibos_model.specs.Screen.{chrome_of}
 use Rattle.ibos_model.specs.Runs.{IsRun, run}
 use Rattle.ibos_model.specs.Facts.{facts, Suits}
 use Rattle.ibos_model.specs.Gives.{gives, told_at, delivered}
@@ -57,8 +58,8 @@ abbrev pub IsChromeKept : Type 0
 IsChromeKept = (H : HostTable) (J : Journal) (e : Entry) (r : ℕ) → IsRun H (e ∷ J) →
     (is_accepted e && (is_users e.act || goes_active (active_of H J) e.act)) ≡ false → chrome_of H (e ∷ J) r ≡ chrome_of H J r
 
--- Row 1 of the chrome, the address bar, begins with the active instance's whole origin, byte by byte as the chrome
--- shows a byte.
+-- Row 1 of the chrome, the address bar, begins with the active instance's whole origin, where the host table has plain
+-- names, as each one has that was read.
 abbrev pub IsOriginShown : Type 0
-IsOriginShown = (H : HostTable) (J : Journal) (who : Instance) → active_of H J ≡ Some who →
-    take (length (origin_of H J who)) (chrome_of H J 1) ≡ map shown_byte (origin_of H J who)
+IsOriginShown = (H : HostTable) (J : Journal) (who : Instance) → HasPlainNames H → active_of H J ≡ Some who →
+    take (length (origin_of H J who)) (chrome_of H J 1) ≡ origin_of H J who

@@ -25,7 +25,8 @@ pub fn chrome_is_kept()
     ensures { IsChromeKept }
 {}
 
-/// The address bar begins with the active instance's origin, whole, whatever the length of its URL.
+/// The address bar begins with the active instance's origin, whole, whatever the length of its URL. The
+/// host table has plain names, as each one has that was read (`ibos_origin::hosts_have_plain_names`).
 pub fn origins_show_whole()
     ensures { IsOriginShown }
 {}

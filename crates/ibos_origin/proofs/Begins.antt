@@ -1,5 +1,5 @@
 -- The serialization of an allowed URL begins with its origin.
-use Rattle.std.proofs.Common.{◌≡◌, ℕ, ◌++◌, List, [], ◌∷◌, Bool, true, false, not, take, drop, Option, Some, None, Ok, Err, Result, refl, sym, ◌∙◌, ap, subst, append_assoc, inl, inr, arith}
+use Rattle.std.proofs.Common.{◌≡◌, ℕ, ◌<◌, ◌++◌, List, [], ◌∷◌, Bool, true, false, not, take, drop, Option, Some, None, Ok, Err, Result, refl, sym, ◌∙◌, ap, subst, append_assoc, inl, inr, arith}
 use Rattle.std.specs.Prelude.{◌^◌, ◌&&◌, ◌||◌, ◌==◌, nat_eq, nat_lt, length, if◌then◌else◌, is_some, unwrap_or, codes, decimal, bytes_eq, IfOk}
 use Rattle.std.specs.List.{concat, list_all}
 use Rattle.std.specs.Char.{is_ascii_digit}
@@ -28,21 +28,27 @@ use Rattle.ibos_origin.specs.Pages.{Page, origin_text, page_at, address_at, host
 
 -- ---- what the parser gives
 
--- a web URL has a host, and its port is not its scheme's default
-record IsWeb (url : Parts) : Type 0 where
-  host : is_some url.host ≡ true
-  port : option_eq nat_eq url.port (default_port url.scheme) ≡ false
+-- a port has 16 bits
+abbrev pub IsSmall : Option ℕ → Type 0
+IsSmall None = Unit {0}
+IsSmall (Some n) = n < 2 ^ 16
 
-abbrev Suits : Parts → Type 0
+-- a web URL has a host, and its port is not its scheme's default
+pub record IsWeb (url : Parts) : Type 0 where
+  pub host : is_some url.host ≡ true
+  pub port : option_eq nat_eq url.port (default_port url.scheme) ≡ false
+  pub small : IsSmall url.port
+
+abbrev pub Suits : Parts → Type 0
 Suits url = is_http url.scheme ≡ true → IsWeb url
 
 -- what was read suits
-record Reads (r : Parsed Parts) : Type 0 where
-  holds : IfOk r Suits
+pub record Reads (r : Parsed Parts) : Type 0 where
+  pub holds : IfOk r Suits
 
 -- the port suits the scheme
 abbrev SuitsPort : List ℕ → Option ℕ → Type 0
-SuitsPort scheme port = is_http scheme ≡ true → option_eq nat_eq port (default_port scheme) ≡ false
+SuitsPort scheme port = is_http scheme ≡ true → (option_eq nat_eq port (default_port scheme) ≡ false) × IsSmall port
 
 always : {T : Type 0} (r : Parsed T) → IfOk r (λ x. Unit {0})
 always (Ok x) = tt
@@ -52,7 +58,7 @@ then_reads : {T : Type 0} (P : T → Type 0) (r : Parsed T) (next : T → Parsed
 then_reads P (Ok x) next holds later = later x holds
 then_reads P (Err e) next holds later = record { holds = tt }
 
-by_web : (P : List ℕ → Type 0) → P (codes "http") → P (codes "https") → (scheme : List ℕ) → is_http scheme ≡ true → P scheme
+pub by_web : (P : List ℕ → Type 0) → P (codes "http") → P (codes "https") → (scheme : List ℕ) → is_http scheme ≡ true → P scheme
 by_web P plain secure scheme web = elim (cases_Bool (bytes_eq scheme (codes "http"))) [
   | inl is ↦ subst P (sym ((bytes_eq-Decides scheme (codes "http")).0 is)) plain
   | inr other ↦ subst P (sym ((bytes_eq-Decides scheme (codes "https")).0 (second _ _ web other))) secure
@@ -62,19 +68,26 @@ by_web P plain secure scheme web = elim (cases_Bool (bytes_eq scheme (codes "htt
     second true b h k = cc
     second false b h k = h
 
-none_suits : (scheme : List ℕ) → SuitsPort scheme None
+no_port_suits : (scheme : List ℕ) → is_http scheme ≡ true → option_eq nat_eq None (default_port scheme) ≡ false
 unfolding default_port
-none_suits = by_web (λ scheme. option_eq nat_eq None (default_port scheme) ≡ false) refl refl
+no_port_suits = by_web (λ scheme. option_eq nat_eq None (default_port scheme) ≡ false) refl refl
 
-rest_suits : (scheme : List ℕ) (port : Option ℕ) → SuitsPort scheme (without_default_port scheme port)
-rest_suits scheme port web = cond_both (option_eq nat_eq port (default_port scheme)) None port (λ p. option_eq nat_eq p (default_port scheme) ≡ false) (λ _. none_suits scheme web) (λ other. other)
+none_suits : (scheme : List ℕ) → SuitsPort scheme None
+none_suits scheme web = (no_port_suits scheme web, tt)
+
+rest_suits : (scheme : List ℕ) (port : Option ℕ) → IsSmall port → SuitsPort scheme (without_default_port scheme port)
+rest_suits scheme port small web = cond_both (option_eq nat_eq port (default_port scheme)) None port (λ p. (option_eq nat_eq p (default_port scheme) ≡ false) × IsSmall p) (λ _. none_suits scheme web) (λ other. (other, small))
+
+small_from : (all : Bool) (n : ℕ) → (all && nat_lt n (2 ^ 16)) ≡ true → n < 2 ^ 16
+small_from true n h = grind (arith, nat_tests, h)
+small_from false n h = cc
 
 port_suits : (scheme digits : List ℕ) → IfOk (parse_port scheme digits) (SuitsPort scheme)
 unfolding parse_port
 port_suits scheme digits =
     cond_both (is_empty digits) _ _ (λ (r : Parsed (Option ℕ)). IfOk r (SuitsPort scheme)) (λ _. none_suits scheme)
     (λ _. cond_both (list_all is_ascii_digit digits && nat_lt (digits_value 10 digits) (2 ^ 16)) _ _ (λ (r : Parsed (Option ℕ)). IfOk r (SuitsPort scheme))
-    (λ _. rest_suits scheme (Some (digits_value 10 digits))) (λ _. tt))
+    (λ few. rest_suits scheme (Some (digits_value 10 digits)) (small_from (list_all is_ascii_digit digits) (digits_value 10 digits) few)) (λ _. tt))
 
 reads_authority : (scheme bytes : List ℕ) → Reads (parse_authority scheme bytes)
 unfolding parse_authority
@@ -87,14 +100,14 @@ reads_authority scheme bytes =
     cond_both (lacks_host at.0 host_port.0 host_port.1) (Err EmptyHost) (and_then (parse_host (scheme_type scheme) host_port.0) with_host) Reads (λ _. record { holds = tt })
     (λ _. then_reads (λ host. Unit {0}) (parse_host (scheme_type scheme) host_port.0) with_host (always (parse_host (scheme_type scheme) host_port.0))
     (λ host _. then_reads (SuitsPort scheme) (parse_port scheme (unwrap_or host_port.1 [])) (with_port host) (port_suits scheme (unwrap_or host_port.1 []))
-    (λ port suits. record { holds = λ web. record { host = refl; port = suits web } })))
+    (λ port suits. record { holds = λ web. record { host = refl; port = (suits web).0; small = (suits web).1 } })))
 
 reads_slashes : (scheme bytes : List ℕ) → Reads (after_double_slash scheme bytes)
 unfolding after_double_slash
 reads_slashes scheme bytes =
     let len = segment_len (scheme_type scheme) bytes in
     then_reads Suits (parse_authority scheme (take len bytes)) _ (reads_authority scheme (take len bytes)).holds
-    (λ head suits. record { holds = λ web. record { host = (suits web).host; port = (suits web).port } })
+    (λ head suits. record { holds = λ web. record { host = (suits web).host; port = (suits web).port; small = (suits web).small } })
 
 web_kind : (scheme : List ℕ) → is_http scheme ≡ true → scheme_type scheme ≡ SpecialNotFile
 unfolding scheme_type default_port
@@ -144,10 +157,10 @@ unfolding parse_body
 reads_body scheme body = cond_both (is_file (scheme_type scheme)) (parse_file None body) (parse_not_file scheme None body) Reads (λ _. reads_file body) (λ _. reads_not_file scheme body)
 
 end_suits : (has_tail : Bool) (url : Parts) → Suits url → Suits (end_path has_tail url)
-end_suits has_tail url suits = cond_both (not (is_special (kind_of url)) && has_tail) (with_path url (escape_end url.path)) url Suits (λ _ web. record { host = (suits web).host; port = (suits web).port }) (λ _. suits)
+end_suits has_tail url suits = cond_both (not (is_special (kind_of url)) && has_tail) (with_path url (escape_end url.path)) url Suits (λ _ web. record { host = (suits web).host; port = (suits web).port; small = (suits web).small }) (λ _. suits)
 
 tail_suits : (url : Parts) (query fragment : Option (List ℕ)) → Suits url → Suits (with_tail url query fragment)
-tail_suits url query fragment suits web = record { host = (suits web).host; port = (suits web).port }
+tail_suits url query fragment suits web = record { host = (suits web).host; port = (suits web).port; small = (suits web).small }
 
 reads_parts : (scheme body : List ℕ) (query fragment : Option (List ℕ)) → Reads (parse_parts scheme None body query fragment)
 unfolding parse_parts
@@ -159,13 +172,13 @@ reads_by_scheme : (split : Option (List ℕ × List ℕ)) (body : List ℕ) (que
 reads_by_scheme None body query fragment = record { holds = tt }
 reads_by_scheme (Some split) body query fragment = reads_parts (lowercase split.0) split.1 query fragment
 
-reads_url : (text : List ℕ) → Reads (parse_url None text)
+pub reads_url : (text : List ℕ) → Reads (parse_url None text)
 unfolding parse_url
 reads_url text = reads_by_scheme _ _ _ _
 
 -- ---- texts
 
-abbrev port_text : Option ℕ → List ℕ
+abbrev pub port_text : Option ℕ → List ℕ
 port_text None = []
 port_text (Some n) = codes ":" ++ decimal n
 
@@ -205,7 +218,7 @@ port_spelled (Some n) (Some m) some other = cond-false _ _ _ (other_number n m o
 rightward : (a b c d : List ℕ) → a ++ b ++ c ++ d ≡ a ++ (b ++ (c ++ d))
 rightward a b c d = simp append_assoc
 
-origin_spelled : (url : Parts) (port : Option ℕ) → url.port ≡ port → is_http url.scheme ≡ true → option_eq nat_eq port (default_port url.scheme) ≡ false
+pub origin_spelled : (url : Parts) (port : Option ℕ) → url.port ≡ port → is_http url.scheme ≡ true → option_eq nat_eq port (default_port url.scheme) ≡ false
     → origin_text url ≡ url.scheme ++ (codes "://" ++ (host_text (host_or_empty url) ++ port_text port))
 unfolding origin_text
 origin_spelled url port is_port web other =

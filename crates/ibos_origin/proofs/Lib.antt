@@ -5,3 +5,4 @@ mod Macs
 mod Dotted
 mod Tabled
 pub mod Begins
+pub mod Plain

@@ -1,10 +1,15 @@
 -- The host table that a text writes, or its first fault and the line of that.
-use Rattle.std.specs.Prelude.{ℕ, ◌+◌, List, [], ◌∷◌, ◌++◌, nat_lt, nat_le, length, fold, Option, Some, None, is_some, Result, Ok, Err, if◌then◌else◌}
+use Rattle.std.specs.Prelude.{◌≡◌, ℕ, ◌+◌, true, List, [], ◌∷◌, ◌++◌, nat_lt, nat_le, length, fold, Option, Some, None, is_some, Result, Ok, Err, if◌then◌else◌}
 use Rattle.ibos_origin.specs.declared.fault.HostFault.{HostFault}
 use Rattle.ibos_origin.specs.declared.fault.HostFault.TheVariants.{Form, Twice, Many, NoSelf, TooLong}
 use Rattle.ibos_origin.specs.Lines.{lines_of}
-use Rattle.ibos_origin.specs.Entries.{Entry, Nothing, Own, Gateway, Named, entry_in}
+use Rattle.std.specs.List.{list_all}
+use Rattle.ibos_origin.specs.Entries.{Entry, is_name_byte, Nothing, Own, Gateway, Named, entry_in}
 use Rattle.ibos_origin.specs.Hosts.{Host, HostTable, address_of, host_of}
+
+-- each host's name has the bytes of a name
+abbrev pub HasPlainNames : HostTable → Type 0
+HasPlainNames H = list_all (λ host. list_all is_name_byte host.name) H.hosts ≡ true
 
 -- what lines have said
 pub record Told : Type 0 where
