@@ -181,3 +181,23 @@ fn a_tab_has_32_instances(rt: HostRuntime) -> Result<(), Fail> {
     );
     Ok(())
 }
+
+#[test]
+fn what_is_typed_outlives_tabs(rt: HostRuntime) -> Result<(), Fail> {
+    let alloc = rt.alloc();
+    let sink = printed(
+        &rt,
+        alloc,
+        "user key 68\nuser open 0 http://a.example/\nuser click 2 0\nuser key 69\nuser switch 0\nuser look\nuser close 0\nuser look\n",
+    )?;
+    let text = std::str::from_utf8(sink.taken())?;
+    assert!(rt;
+        text.contains(
+            "\n6 user row 0 |tab 0.0 page\n6 user row 1 |http://a.example/\n6 user row 2 |hi\n6 user row 3 |\n"
+        )
+    );
+    assert!(rt;
+        text.contains("\n8 user row 0 |no tab\n8 user row 1 |\n8 user row 2 |hi\n8 user row 3 |\n")
+    );
+    Ok(())
+}
