@@ -183,6 +183,21 @@ fn a_tab_has_32_instances(rt: HostRuntime) -> Result<(), Fail> {
 }
 
 #[test]
+fn the_33rd_opening_of_a_tab_is_refused(rt: HostRuntime) -> Result<(), Fail> {
+    let alloc = rt.alloc();
+    let mut script = String::new(alloc);
+    for _ in 0..32 {
+        script.push_str("user open 5 http://a.example/\nuser close 5\n")?;
+    }
+    script.push_str("user open 5 http://a.example/\n")?;
+    let sink = printed(&rt, alloc, script.as_str())?;
+    let text = std::str::from_utf8(sink.taken())?;
+    assert!(rt; text.starts_with("1 ok\n1 5.0 opened http://a.example/\n2 ok\n2 5.0 ended\n"));
+    assert!(rt; text.ends_with("64 ok\n64 5.31 ended\n65 denied U3 TabSpent\nend 65\n"));
+    Ok(())
+}
+
+#[test]
 fn what_is_typed_outlives_tabs(rt: HostRuntime) -> Result<(), Fail> {
     let alloc = rt.alloc();
     let sink = printed(
