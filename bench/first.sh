@@ -13,15 +13,5 @@ for lines in 250000 500000 1000000; do
         echo "user open 0 http://a.example/"
         awk -v pairs=$((lines / 2)) 'BEGIN { for (i = 0; i < pairs; i++) print "page 0.0 cookie set k=v\npage 0.0 cookie get" }'
     } >"$folder/script"
-    python3 - "$program" "$here/examples/first/hosts" "$folder/script" "$lines" <<'PYTHON'
-import os, resource, subprocess, sys, time
-program, hosts, script, lines = sys.argv[1:]
-start = time.monotonic()
-with open(os.devnull, "w") as nothing:
-    subprocess.run([program, "run", hosts, script], stdout=nothing, check=True)
-wall = time.monotonic() - start
-used = resource.getrusage(resource.RUSAGE_CHILDREN)
-size = os.path.getsize(script)
-print(f"{lines:>8} lines  {size / 2**20:6.1f} MiB of script  {wall:6.2f} s  {1e9 * wall / int(lines):7.0f} ns a line  {used.ru_maxrss / 1024:6.1f} MiB of memory at most")
-PYTHON
+    python3 "$here/bench/timed.py" "$program" "$here/examples/first/hosts" "$folder/script" "$lines" line
 done

@@ -19,13 +19,5 @@ for acts in 100000 400000 1600000; do
         for (tab = 0; tab < 60; tab++) printf "user open %d http://h%d.example/\n", tab, tab * 68
         for (i = 0; i < acts / 2; i++) printf "page %d.0 cookie set k%d=%d\nnet %d.0 cookie get\n", i % 60, i % 7, i, i % 60
     }' >"$folder/script"
-    python3 - "$program" "$folder/hosts" "$folder/script" "$acts" <<'PYTHON'
-import os, subprocess, sys, time
-program, hosts, script, acts = sys.argv[1:]
-start = time.monotonic()
-with open(os.devnull, "w") as nothing:
-    subprocess.run([program, "run", hosts, script], stdout=nothing, check=True)
-wall = time.monotonic() - start
-print(f"{acts:>8} acts  {wall:6.2f} s  {1e9 * wall / int(acts):6.0f} ns an act")
-PYTHON
+    python3 "$here/bench/timed.py" "$program" "$folder/hosts" "$folder/script" "$acts" act
 done
