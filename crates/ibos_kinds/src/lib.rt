@@ -9,6 +9,7 @@ mod fakes;
 mod names;
 mod outcome;
 mod outside;
+mod party;
 mod rule;
 mod sums;
 
@@ -19,6 +20,7 @@ pub use fakes::{File, MemCabinet, MemSink};
 pub use names::{Dir, Endpoint, Handle, Heading, Instance, Key, Local, Proto, Side, Verdict};
 pub use outcome::{Head, Item, Items, Outcome};
 pub use outside::{Cabinet, Failed, Sink};
+pub use party::{Party, actor, addressee};
 pub use rule::Rule;
 pub use sums::{sum_words, sum16};
 

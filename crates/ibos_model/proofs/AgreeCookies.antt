@@ -3,6 +3,7 @@ use Rattle.std.proofs.Common.{◌≡◌, ◌≢◌, ℕ, List, [], ◌++◌, Boo
 use Rattle.std.specs.Prelude.{bytes_eq}
 use Rattle.std.proofs.lemmas.Bool.Decides.{nat_tests}
 use Rattle.ibos_kinds.specs.declared.names.Instance.{Instance}
+use Rattle.ibos_kinds.specs.declared.party.Party.TheVariants.{Page as PageOf}
 use Rattle.ibos_kinds.specs.declared.names.Side.{Side}
 use Rattle.ibos_kinds.specs.declared.rule.Rule.{Rule}
 use Rattle.ibos_kinds.specs.declared.act.Act.TheVariants.{CookieSet, CookieGet}
@@ -14,7 +15,8 @@ use Rattle.ibos_model.specs.Tabs.{tabs, Life, Unborn, Alive, Gone, life_with, li
 use Rattle.ibos_model.specs.Jars.{with_set, jar, sets_of}
 use Rattle.ibos_model.specs.Rows.{admitted, answer, set_row, get_row, out}
 use Rattle.ibos_model.specs.Facts.{OtherSet, when, Suits}
-use Rattle.ibos_model.specs.Gives.{Mine, told, gives_from, mine_from}
+use Rattle.ibos_model.specs.Gives.{Mine, gives_from, mine_from}
+use Rattle.ibos_model.specs.Delivered.{told}
 use Rattle.ibos_model.proofs.Folds.{same-true, bytes_eq-refl, and-true}
 use Rattle.ibos_kinds.specs.Cookies.{set_breaks}
 use Rattle.ibos_model.proofs.Agrees.{mine_of, Agrees, entry, answers, admit_same, told_own}
@@ -29,12 +31,12 @@ no_items (Some rule) = refl
 set_row_items : (text : List ℕ) (sets : List Cookie) → (set_row text sets).items ≡ []
 set_row_items text sets = no_items (set_breaks text (jar sets))
 
-other_set_told : (p who : Instance) (life : Life) (text : List ℕ) (sets : List Cookie) → told p (admitted life (set_row text sets)).items ≡ []
+other_set_told : (p who : Instance) (life : Life) (text : List ℕ) (sets : List Cookie) → told (PageOf p) (admitted life (set_row text sets)).items ≡ []
 other_set_told p who Unborn text sets = refl
 other_set_told p who Gone text sets = refl
-other_set_told p who Alive text sets = ap (told p) (set_row_items text sets)
+other_set_told p who Alive text sets = ap (told (PageOf p)) (set_row_items text sets)
 
-other_get_told : (p who : Instance) (life : Life) (sets : List Cookie) → same who p ≡ false → told p (admitted life (get_row who sets)).items ≡ []
+other_get_told : (p who : Instance) (life : Life) (sets : List Cookie) → same who p ≡ false → told (PageOf p) (admitted life (get_row who sets)).items ≡ []
 other_get_told p who Unborn sets differ = refl
 other_get_told p who Gone sets differ = refl
 other_get_told p who Alive sets differ = grind (arith, nat_tests)

@@ -3,6 +3,7 @@ use Rattle.std.proofs.Common.{◌≡◌, ℕ, ◌+◌, zero, suc, List, [], ◌+
 use Rattle.std.specs.Prelude.{if◌then◌else◌, not, nat_lt, ◌-◌}
 use Rattle.std.proofs.lemmas.Bool.Decides.{nat_tests}
 use Rattle.ibos_kinds.specs.declared.names.Instance.{Instance}
+use Rattle.ibos_kinds.specs.declared.party.Party.TheVariants.{Page as PageOf}
 use Rattle.ibos_kinds.specs.declared.names.Key.{Key}
 use Rattle.ibos_kinds.specs.declared.names.Key.TheVariants.{Byte, Enter, Back}
 use Rattle.ibos_kinds.specs.declared.rule.Rule.{Rule}
@@ -21,9 +22,10 @@ use Rattle.ibos_model.specs.Jars.{sets_of}
 use Rattle.ibos_model.specs.Screen.{screen, seen_row}
 use Rattle.ibos_model.specs.Rows.{accepted, denied, admitted, answer, page_key_row, enter_row, content_click_row, rows_from, draw_row, out}
 use Rattle.ibos_model.specs.Facts.{Fact, KeyHit, ClickHit, when, change_facts}
-use Rattle.ibos_model.specs.Gives.{Mine, told, gives_from, mine_from}
+use Rattle.ibos_model.specs.Gives.{Mine, gives_from, mine_from}
+use Rattle.ibos_model.specs.Delivered.{told}
 use Rattle.ibos_model.proofs.Folds.{same-true}
-use Rattle.ibos_model.proofs.Fresh.{IsSound, AllowsAll, changes_allowed}
+use Rattle.ibos_model.proofs.Due.{IsSound, AllowsAll, changes_allowed}
 use Rattle.ibos_model.proofs.Changes.{item_of, mine_in, changes_told}
 use Rattle.ibos_model.proofs.Agrees.{mine_of, Agrees, answers, entry, told_own}
 use Rattle.ibos_model.proofs.AgreeCookies.{no_items}
@@ -41,7 +43,7 @@ key_mine H o m true byte = refl
 key_mine H o m false byte = refl
 
 key_told : (H : HostTable) (p : Instance) (o : List ℕ) (m : Mine) (active : Option Instance) (key : Key)
-    → told p (page_key_row active key).items ≡ gives_from H p o m (when (is_ok (page_key_row active key).head && (true && is_active p active)) (KeyHit (key_byte key)) ++ [])
+    → told (PageOf p) (page_key_row active key).items ≡ gives_from H p o m (when (is_ok (page_key_row active key).head && (true && is_active p active)) (KeyHit (key_byte key)) ++ [])
 key_told H p o m None key = refl
 key_told H p o m (Some who) key = grind (arith, nat_tests, same-true who p)
 
@@ -53,7 +55,7 @@ enter_items t (Some who) (Ok page) = grind (arith, nat_tests)
 
 -- what a key gives and what is counted after it, where it has this outcome and makes these changes
 record Pressed (H : HostTable) (p : Instance) (o : List ℕ) (t : Tabs) (sets : List Cookie) (active : Option Instance) (at_entry : Bool) (key : Key) (outcome : Outcome) (cs : List Change) : Type 0 where
-  told : told p outcome.items ≡ gives_from H p o (mine_in t p sets) (when (is_ok outcome.head && (not at_entry && is_active p active)) (KeyHit (key_byte key)) ++ change_facts p false cs)
+  told : told (PageOf p) outcome.items ≡ gives_from H p o (mine_in t p sets) (when (is_ok outcome.head && (not at_entry && is_active p active)) (KeyHit (key_byte key)) ++ change_facts p false cs)
   mine : mine_in (changed_by t cs) p sets ≡ mine_from H o (mine_in t p sets) (when (is_ok outcome.head && (not at_entry && is_active p active)) (KeyHit (key_byte key)) ++ change_facts p false cs)
 
 to_page : (H : HostTable) (p : Instance) (o : List ℕ) (t : Tabs) (sets : List Cookie) (active : Option Instance) (key : Key)
@@ -66,18 +68,18 @@ to_page H p o t sets active key = record {
 typed_in : (H : HostTable) (p : Instance) (o : List ℕ) (t : Tabs) (sets : List Cookie) (active : Option Instance) (key : Key) (broken : Option Rule)
     → Pressed H p o t sets active true key (answer broken) []
 typed_in H p o t sets active key broken = record {
-  told = rw (no_hit (is_ok (answer broken).head) (is_active p active) (KeyHit (key_byte key))) (ap (told p) (no_items broken));
+  told = rw (no_hit (is_ok (answer broken).head) (is_active p active) (KeyHit (key_byte key))) (ap (told (PageOf p)) (no_items broken));
   mine = key_mine H o (mine_in t p sets) _ (key_byte key);
 }
 
 entered_page : (H : HostTable) (p : Instance) (o : List ℕ) (t : Tabs) (sets : List Cookie) (active : Option Instance) (r : Result Page Rule) → IsSound t
-    → AllowsAll t (if_ok (is_ok (enter_row t active r).head && true) (entering t active r))
+    → AllowsAll H t (if_ok (is_ok (enter_row t active r).head && true) (entering t active r))
     → Pressed H p o t sets active true Enter (enter_row t active r) (if_ok (is_ok (enter_row t active r).head && true) (entering t active r))
 entered_page H p o t sets active r sound allowed =
     let law = changes_told H p o t sets (if_ok (is_ok (enter_row t active r).head && true) (entering t active r)) sound allowed in
     let none = no_hit (is_ok (enter_row t active r).head) (is_active p active) (KeyHit (key_byte Enter)) in
     record {
-      told = rw none (ap (told p) (enter_items t active r) ∙ law.0);
+      told = rw none (ap (told (PageOf p)) (enter_items t active r) ∙ law.0);
       mine = rw none law.1;
     }
 
@@ -87,7 +89,7 @@ no_changes true cs = refl
 no_changes false cs = refl
 
 entered_at : (H : HostTable) (p : Instance) (o : List ℕ) (t : Tabs) (sets : List Cookie) (active : Option Instance) (r : Result Page Rule) (at_entry : Bool) → IsSound t
-    → AllowsAll t (if_ok (is_ok (if at_entry then enter_row t active r else page_key_row active Enter).head && at_entry) (entering t active r))
+    → AllowsAll H t (if_ok (is_ok (if at_entry then enter_row t active r else page_key_row active Enter).head && at_entry) (entering t active r))
     → Pressed H p o t sets active at_entry Enter (if at_entry then enter_row t active r else page_key_row active Enter)
     (if_ok (is_ok (if at_entry then enter_row t active r else page_key_row active Enter).head && at_entry) (entering t active r))
 entered_at H p o t sets active r true sound allowed = entered_page H p o t sets active r sound allowed
@@ -119,7 +121,7 @@ click_mine H o m true row col = refl
 click_mine H o m false row col = refl
 
 clicked_told : (H : HostTable) (p : Instance) (o : List ℕ) (m : Mine) (active : Option Instance) (row col : ℕ) (off low : Bool)
-    → told p (if off then denied U12 else if low then accepted [] else content_click_row active row col).items
+    → told (PageOf p) (if off then denied U12 else if low then accepted [] else content_click_row active row col).items
     ≡ gives_from H p o m (when (is_ok (if off then denied U12 else if low then accepted [] else content_click_row active row col).head && (not low && is_active p active)) (ClickHit row col) ++ [])
 clicked_told H p o m active row col true low = refl
 clicked_told H p o m active row col false true = refl
@@ -135,7 +137,7 @@ click_agrees H p o J row col w = record {
 
 -- ---- looks
 
-no_rows : (p : Instance) (n r : ℕ) (f : ℕ → List ℕ) → told p (rows_from r n f) ≡ []
+no_rows : (p : Instance) (n r : ℕ) (f : ℕ → List ℕ) → told (PageOf p) (rows_from r n f) ≡ []
 no_rows p zero r f = refl
 no_rows p (suc n) r f = no_rows p n (r + 1) f
 
@@ -145,10 +147,10 @@ look_agrees H p o J w = record { told = no_rows p (chrome_rows + content_rows) 0
 
 -- ---- draws
 
-draw_told : (p : Instance) (life : Life) (broken : Option Rule) → told p (admitted life (answer broken)).items ≡ []
+draw_told : (p : Instance) (life : Life) (broken : Option Rule) → told (PageOf p) (admitted life (answer broken)).items ≡ []
 draw_told p Unborn broken = refl
 draw_told p Gone broken = refl
-draw_told p Alive broken = ap (told p) (no_items broken)
+draw_told p Alive broken = ap (told (PageOf p)) (no_items broken)
 
 pub draw_agrees : (H : HostTable) (p : Instance) (o : List ℕ) (J : Journal) (who : Instance) (row col height width : ℕ) (pixels w : List ℕ)
     → (own : Bool) → same who p ≡ own → Agrees H p o J (entry H J (Draw who row col height width pixels) w)

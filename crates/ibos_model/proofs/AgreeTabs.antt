@@ -3,6 +3,7 @@ use Rattle.std.proofs.Common.{◌≡◌, ◌≢◌, ℕ, ◌+◌, List, [], ◌�
 use Rattle.std.specs.Prelude.{if◌then◌else◌, bytes_eq}
 use Rattle.std.proofs.lemmas.Bool.Decides.{nat_tests}
 use Rattle.ibos_kinds.specs.declared.names.Instance.{Instance}
+use Rattle.ibos_kinds.specs.declared.party.Party.TheVariants.{Page as PageOf}
 use Rattle.ibos_kinds.specs.declared.rule.Rule.{Rule}
 use Rattle.ibos_kinds.specs.declared.act.Act.TheVariants.{Start, Switch, Close, Go}
 use Rattle.ibos_kinds.specs.declared.outcome.Item.TheVariants.{Opened, Moved, Ended}
@@ -15,9 +16,10 @@ use Rattle.ibos_model.specs.Tabs.{Tabs, tabs, Opens, Moves, Ends, Life, Unborn, 
 use Rattle.ibos_model.specs.Jars.{sets_of}
 use Rattle.ibos_model.specs.Rows.{accepted, denied, admitted, open_row, start_row, switch_row, close_row, go_row, out}
 use Rattle.ibos_model.specs.Facts.{change_facts, Suits}
-use Rattle.ibos_model.specs.Gives.{told, own_row, own_after, life_after_go}
+use Rattle.ibos_model.specs.Gives.{own_out, own_after, life_after_go}
+use Rattle.ibos_model.specs.Delivered.{told}
 use Rattle.ibos_model.proofs.Folds.{same-true, same-refl}
-use Rattle.ibos_model.proofs.Fresh.{IsSound, changes_allowed}
+use Rattle.ibos_model.proofs.Due.{IsSound, changes_allowed}
 use Rattle.ibos_model.proofs.Changes.{item_of, mine_in, mine_with, changes_told}
 use Rattle.std.specs.Prelude.{nat_lt}
 use Rattle.ibos_kinds.specs.declared.rule.Rule.TheVariants.{U3}
@@ -49,13 +51,13 @@ pub start_agrees : (H : HostTable) (p : Instance) (o : List ℕ) (J : Journal) (
 unfolding tabs sets_of
 start_agrees H p o J tab url w sound =
     let law = changes_told H p o (tabs H J) (sets_of H J o) (changes H (tabs H J) (focus_of J) (is_ok (out H J (Start tab url)).head) (Start tab url)) sound (changes_allowed H J (Start tab url) sound) in
-    record { told = ap (told p) (start_items ((tabs H J).live tab) (tabs H J) tab (allowed H url)) ∙ law.0; mine = law.1 }
+    record { told = ap (told (PageOf p)) (start_items ((tabs H J).live tab) (tabs H J) tab (allowed H url)) ∙ law.0; mine = law.1 }
 
 pub close_agrees : (H : HostTable) (p : Instance) (o : List ℕ) (J : Journal) (tab : ℕ) (w : List ℕ) → IsSound (tabs H J) → Agrees H p o J (entry H J (Close tab) w)
 unfolding tabs sets_of
 close_agrees H p o J tab w sound =
     let law = changes_told H p o (tabs H J) (sets_of H J o) (changes H (tabs H J) (focus_of J) (is_ok (out H J (Close tab)).head) (Close tab)) sound (changes_allowed H J (Close tab) sound) in
-    record { told = ap (told p) (close_items ((tabs H J).live tab)) ∙ law.0; mine = law.1 }
+    record { told = ap (told (PageOf p)) (close_items ((tabs H J).live tab)) ∙ law.0; mine = law.1 }
 
 -- switching tells nothing, and is no fact
 switch_items : (live : Option Instance) → (switch_row live).items ≡ []
@@ -64,7 +66,7 @@ switch_items None = refl
 
 pub switch_agrees : (H : HostTable) (p : Instance) (o : List ℕ) (J : Journal) (tab : ℕ) (w : List ℕ) → Agrees H p o J (entry H J (Switch tab) w)
 unfolding tabs sets_of
-switch_agrees H p o J tab w = record { told = ap (told p) (switch_items ((tabs H J).live tab)); mine = refl }
+switch_agrees H p o J tab w = record { told = ap (told (PageOf p)) (switch_items ((tabs H J).live tab)); mine = refl }
 
 -- ---- acts of instances
 
@@ -72,7 +74,7 @@ go_other : (H : HostTable) (p : Instance) (o : List ℕ) (J : Journal) (who : In
 unfolding tabs sets_of
 go_other H p o J who url w sound other =
     let law = changes_told H p o (tabs H J) (sets_of H J o) (changes H (tabs H J) (focus_of J) (is_ok (out H J (Go who url)).head) (Go who url)) sound (changes_allowed H J (Go who url) sound) in
-    record { told = rw other (ap (told p) (go_items (life_of H J who) (tabs H J) who (allowed H url)) ∙ law.0); mine = rw other law.1 }
+    record { told = rw other (ap (told (PageOf p)) (go_items (life_of H J who) (tabs H J) who (allowed H url)) ∙ law.0); mine = rw other law.1 }
 
 -- the next instance of a tab is not one that was there
 next_differs : (t : Tabs) (p : Instance) (page : Page) → IsSound t → t.page p ≡ Some page → same (next_in t p.tab) p ≡ false
@@ -88,7 +90,7 @@ go_answers p next other origin (Ok page) n m = grind (arith, nat_tests)
 
 -- what the instance's own going gives, and how it is counted
 record OwnGo (H : HostTable) (p : Instance) (o : List ℕ) (t : Tabs) (url : List ℕ) (sets : List Cookie) (page : Option Page) (gone : Bool) : Type 0 where
-  told : answers p (admitted (life_with page gone) (go_row p (origin_with page) (next_in t p.tab) (allowed H url))) ≡ answers p (own_row H o (Go p url) (mine_with page gone sets))
+  told : answers p (admitted (life_with page gone) (go_row p (origin_with page) (next_in t p.tab) (allowed H url))) ≡ answers p (own_out H o (Go p url) (mine_with page gone sets))
   silent : change_facts p true (if_ok (is_ok (admitted (life_with page gone) (go_row p (origin_with page) (next_in t p.tab) (allowed H url))).head) (leave t p (allowed H url))) ≡ []
   mine : mine_in (changed_by t (if_ok (is_ok (admitted (life_with page gone) (go_row p (origin_with page) (next_in t p.tab) (allowed H url))).head) (leave t p (allowed H url)))) p sets ≡ own_after H o (Go p url) (mine_with page gone sets)
 

@@ -5,6 +5,7 @@ use Rattle.std.proofs.lemmas.Bool.Decides.{nat_tests}
 use Rattle.std.proofs.lemmas.List.Elements.{filter-append}
 use Rattle.std.proofs.lemmas.List.{map-append}
 use Rattle.ibos_kinds.specs.declared.names.Instance.{Instance}
+use Rattle.ibos_kinds.specs.declared.party.Party.TheVariants.{Page as PageOf}
 use Rattle.ibos_kinds.specs.declared.outcome.Item.{Item}
 use Rattle.ibos_kinds.specs.declared.outcome.Item.TheVariants.{Opened as ItemOpened, Moved, Ended}
 use Rattle.ibos_kinds.specs.declared.cookies.Cookie.{Cookie}
@@ -13,9 +14,12 @@ use Rattle.ibos_origin.specs.Pages.{Page}
 use Rattle.ibos_model.specs.Journal.{same}
 use Rattle.ibos_model.specs.Tabs.{Tabs, Change, Opens, Moves, Ends, changed, changed_by, life_with}
 use Rattle.ibos_model.specs.Facts.{Opened, IsEnded, when, change_fact, change_facts}
-use Rattle.ibos_model.specs.Gives.{Mine, Told, is_to, told, gives_from, mine_from}
-use Rattle.ibos_model.proofs.Folds.{gives_from-append, mine_from-append, same-true}
-use Rattle.ibos_model.proofs.Fresh.{IsSound, Allows, AllowsAll, changed_sound, next_ord}
+use Rattle.ibos_model.specs.Gives.{Mine, deliveries, mine_after, gives_from, mine_from}
+use Rattle.ibos_model.specs.Delivered.{Told, told}
+use Rattle.ibos_kinds.specs.Parties.{is_to}
+use Rattle.ibos_model.proofs.Folds.{same-true}
+use Rattle.ibos_model.proofs.Inductions.{given-append, counted-append}
+use Rattle.ibos_model.proofs.Due.{IsSound, Allows, AllowsAll, changed_sound, next_ord}
 
 -- what a change tells its instance
 abbrev pub item_of : Change → Item
@@ -29,7 +33,7 @@ mine_with page gone sets = record { life = life_with page gone; sets = sets }
 abbrev pub mine_in : Tabs → Instance → List Cookie → Mine
 mine_in t p sets = mine_with (t.page p) (t.is_gone p) sets
 
-change_told : (H : HostTable) (p : Instance) (o : List ℕ) (m : Mine) (c : Change) → told p (item_of c ∷ []) ≡ gives_from H p o m (change_fact p false c)
+change_told : (H : HostTable) (p : Instance) (o : List ℕ) (m : Mine) (c : Change) → told (PageOf p) (item_of c ∷ []) ≡ gives_from H p o m (change_fact p false c)
 change_told H p o m (Opens who page) = grind (arith, nat_tests, same-true who p)
 change_told H p o m (Moves who url) = grind (arith, nat_tests, same-true who p)
 change_told H p o m (Ends who) = grind (arith, nat_tests, same-true who p)
@@ -45,28 +49,28 @@ mine_ended H o true None gone sets there = absurd (there refl refl)
 mine_ended H o true (Some page) gone sets there = refl
 mine_ended H o false page gone sets there = refl
 
-change_mine : (H : HostTable) (p : Instance) (o : List ℕ) (t : Tabs) (sets : List Cookie) (c : Change) → IsSound t → Allows t c → mine_in (changed t c) p sets ≡ mine_from H o (mine_in t p sets) (change_fact p false c)
+change_mine : (H : HostTable) (p : Instance) (o : List ℕ) (t : Tabs) (sets : List Cookie) (c : Change) → IsSound t → Allows H t c → mine_in (changed t c) p sets ≡ mine_from H o (mine_in t p sets) (change_fact p false c)
 change_mine H p o t sets (Opens who page) sound allowed = mine_opened H o page.url (same who p) page (t.page p) (t.is_gone p) sets
-    (λ here. sound.kept p (sound.unborn p (grind (arith, nat_tests, same-true who p here, next_ord t who allowed))))
+    (λ here. sound.kept p (sound.unborn p (grind (arith, nat_tests, same-true who p here, next_ord t who allowed.0))))
 change_mine H p o t sets (Moves who url) sound allowed = grind (arith, nat_tests)
 change_mine H p o t sets (Ends who) sound allowed = mine_ended H o (same who p) (t.page p) (t.is_gone p) sets
-    (λ here. subst (λ q. t.page q ≢ None) (same-true who p here) allowed)
+    (λ here. subst (λ q. t.page q ≢ None) (same-true who p here) (allowed tt).there)
 
-told-append : (p : Instance) (xs ys : List Item) → told p (xs ++ ys) ≡ told p xs ++ told p ys
-told-append p xs ys = ap (map Told) (filter-append (is_to p) xs ys) ∙ map-append Told (filter (is_to p) xs) (filter (is_to p) ys)
+told-append : (p : Instance) (xs ys : List Item) → told (PageOf p) (xs ++ ys) ≡ told (PageOf p) xs ++ told (PageOf p) ys
+told-append p xs ys = ap (map Told) (filter-append (is_to (PageOf p)) xs ys) ∙ map-append Told (filter (is_to (PageOf p)) xs) (filter (is_to (PageOf p)) ys)
 
-pub changes_told : (H : HostTable) (p : Instance) (o : List ℕ) (t : Tabs) (sets : List Cookie) (cs : List Change) → IsSound t → AllowsAll t cs
-    → (told p (map item_of cs) ≡ gives_from H p o (mine_in t p sets) (change_facts p false cs))
+pub changes_told : (H : HostTable) (p : Instance) (o : List ℕ) (t : Tabs) (sets : List Cookie) (cs : List Change) → IsSound t → AllowsAll H t cs
+    → (told (PageOf p) (map item_of cs) ≡ gives_from H p o (mine_in t p sets) (change_facts p false cs))
     × (mine_in (changed_by t cs) p sets ≡ mine_from H o (mine_in t p sets) (change_facts p false cs))
 changes_told H p o t sets [] sound allowed = (refl, refl)
 changes_told H p o t sets (c ∷ cs) sound allowed =
     let m = mine_in t p sets in
     let is = change_mine H p o t sets c sound allowed.0 in
-    let rest = changes_told H p o (changed t c) sets cs (changed_sound t c sound allowed.0) allowed.1 in (
+    let rest = changes_told H p o (changed t c) sets cs (changed_sound H t c sound allowed.0) allowed.1 in (
       told-append p (item_of c ∷ []) (map item_of cs)
-          ∙ ap (λ ds. ds ++ told p (map item_of cs)) (change_told H p o m c)
+          ∙ ap (λ ds. ds ++ told (PageOf p) (map item_of cs)) (change_told H p o m c)
           ∙ ap (λ ds. gives_from H p o m (change_fact p false c) ++ ds) (rest.0 ∙ ap (λ n. gives_from H p o n (change_facts p false cs)) is)
-          ∙ sym (gives_from-append H p o m (change_fact p false c) (change_facts p false cs)),
+          ∙ sym (given-append (deliveries H p o) (mine_after H o) m (change_fact p false c) (change_facts p false cs)),
       rest.1 ∙ ap (λ n. mine_from H o n (change_facts p false cs)) is
-          ∙ sym (mine_from-append H o m (change_fact p false c) (change_facts p false cs)),
+          ∙ sym (counted-append (mine_after H o) m (change_fact p false c) (change_facts p false cs)),
     )

@@ -3,7 +3,6 @@ use Rattle.std.proofs.Common.{◌≡◌, ℕ, zero, suc, [], ◌∷◌, Bool, tr
 use Rattle.std.specs.Prelude.{if◌then◌else◌, bytes_eq, option_and_then, ◌||◌, ◌==◌}
 use Rattle.std.proofs.lemmas.Bool.Decides.{nat_tests}
 use Rattle.ibos_kinds.specs.declared.names.Instance.{Instance}
-use Rattle.ibos_kinds.specs.declared.names.Key.TheVariants.{Byte, Enter, Back}
 use Rattle.ibos_kinds.specs.declared.rule.Rule.{Rule}
 use Rattle.ibos_kinds.specs.declared.act.Act.{Act}
 use Rattle.ibos_kinds.specs.declared.act.Act.TheVariants.{Start, Switch, Close, Press, Click, Look, Go, Draw, CookieSet, CookieGet}
@@ -13,39 +12,11 @@ use Rattle.ibos_origin.specs.Pages.{Page, allowed}
 use Rattle.ibos_model.specs.Journal.{Journal, is_accepted, is_ok, same}
 use Rattle.ibos_model.specs.Focus.{Focus, focus_by, focus_of, is_active}
 use Rattle.ibos_model.specs.Tabs.{Tabs, Opens, Moves, Ends, changed, changed_by, changes, leave, active_in, active_of, tabs, next_in, origin_in}
-use Rattle.ibos_model.specs.Screen.{bar_of, bar_text, chrome_in}
+use Rattle.ibos_model.specs.Screen.{bar_of, bar_text, chrome_in, chrome_of}
 use Rattle.ibos_model.specs.Rows.{out}
 use Rattle.ibos_model.specs.Laws.{IsChromeKept, is_users, goes_active}
-use Rattle.ibos_model.proofs.Alone.{IsAlone, admitted_lives, tabs_alone}
-
--- a denied act changes nothing
-denied_focus : (a : Act) (f : Focus) → focus_by false a f ≡ f
-denied_focus (Start tab url) f = refl
-denied_focus (Switch tab) f = refl
-denied_focus (Close tab) f = refl
-denied_focus (Press (Byte byte)) f = refl
-denied_focus (Press Enter) f = refl
-denied_focus (Press Back) f = refl
-denied_focus (Click row col) f = refl
-denied_focus Look f = refl
-denied_focus (Go who url) f = refl
-denied_focus (Draw who row col height width pixels) f = refl
-denied_focus (CookieSet side who text) f = refl
-denied_focus (CookieGet side who) f = refl
-
-denied_changes : (H : HostTable) (t : Tabs) (f : Focus) (a : Act) → changes H t f false a ≡ []
-denied_changes H t f (Start tab url) = refl
-denied_changes H t f (Switch tab) = refl
-denied_changes H t f (Close tab) = refl
-denied_changes H t f (Press (Byte byte)) = refl
-denied_changes H t f (Press Enter) = refl
-denied_changes H t f (Press Back) = refl
-denied_changes H t f (Click row col) = refl
-denied_changes H t f Look = refl
-denied_changes H t f (Go who url) = refl
-denied_changes H t f (Draw who row col height width pixels) = refl
-denied_changes H t f (CookieSet side who text) = refl
-denied_changes H t f (CookieGet side who) = refl
+use Rattle.ibos_model.proofs.Denials.{unchanged}
+use Rattle.ibos_model.proofs.Due.{IsSound, admitted_lives, tabs_sound}
 
 -- the same active instance at the same URL
 chrome_from : (old new : Tabs) (f : Focus) → active_in new f ≡ active_in old f → ((a : Instance) → active_in old f ≡ Some a → new.url a ≡ old.url a)
@@ -60,7 +31,7 @@ chrome_from old new f active url (suc (suc r)) = refl
 
 -- ---- an instance that is not the active one goes
 
-left_chrome : (t : Tabs) (f : Focus) (who : Instance) (r : Result Page Rule) → IsAlone t → t.live who.tab ≡ Some who → is_active who (active_in t f) ≡ false
+left_chrome : (t : Tabs) (f : Focus) (who : Instance) (r : Result Page Rule) → IsSound t → t.live who.tab ≡ Some who → is_active who (active_in t f) ≡ false
     → (k : ℕ) → chrome_in (changed_by t (leave t who r)) f k ≡ chrome_in t f k
 left_chrome t f who (Err rule) is lives other k = refl
 left_chrome t f who (Ok page) is lives other k = by_origin (bytes_eq page.origin (origin_in t who))
@@ -111,10 +82,10 @@ left_chrome t f who (Ok page) is lives other k = by_origin (bytes_eq page.origin
 
 -- ---- the law
 
-accepted_kept : (H : HostTable) (J : Journal) (a : Act) (r : ℕ) → IsAlone (tabs H J) → is_ok (out H J a).head ≡ true → (is_users a || goes_active (active_of H J) a) ≡ false
+accepted_kept : (H : HostTable) (J : Journal) (a : Act) (r : ℕ) → IsSound (tabs H J) → is_ok (out H J a).head ≡ true → (is_users a || goes_active (active_of H J) a) ≡ false
     → chrome_in (changed_by (tabs H J) (changes H (tabs H J) (focus_of J) true a)) (focus_by true a (focus_of J)) r ≡ chrome_in (tabs H J) (focus_of J) r
 accepted_kept H J (Go who url) r is ok other = left_chrome (tabs H J) (focus_of J) who (allowed H url) is
-    (admitted_lives (tabs H J) who _ is ((tabs H J).page who) refl ((tabs H J).is_gone who) refl ok) other r
+    (admitted_lives (tabs H J) who _ is ((tabs H J).page who) refl ((tabs H J).is_gone who) refl ok).live other r
 accepted_kept H J (Draw who row col height width pixels) r is ok other = refl
 accepted_kept H J (CookieSet side who text) r is ok other = refl
 accepted_kept H J (CookieGet side who) r is ok other = refl
@@ -129,8 +100,6 @@ pub chrome_kept : IsChromeKept
 unfolding tabs focus_of
 chrome_kept H J e r run other = by_ok (is_accepted e) refl
   where
-    by_ok : (ok : Bool) → is_accepted e ≡ ok
-        → chrome_in (changed_by (tabs H J) (changes H (tabs H J) (focus_of J) (is_accepted e) e.act)) (focus_by (is_accepted e) e.act (focus_of J)) r ≡ chrome_in (tabs H J) (focus_of J) r
-    by_ok false is = rw is (ap (λ cs. chrome_in (changed_by (tabs H J) cs) (focus_by false e.act (focus_of J)) r) (denied_changes H (tabs H J) (focus_of J) e.act)
-        ∙ ap (λ f. chrome_in (tabs H J) f r) (denied_focus e.act (focus_of J)))
-    by_ok true is = rw is (accepted_kept H J e.act r (tabs_alone H J run.1) (ap (λ (o : Outcome). is_ok o.head) (sym run.0) ∙ is) (rw is at other))
+    by_ok : (ok : Bool) → is_accepted e ≡ ok → chrome_of H (e ∷ J) r ≡ chrome_of H J r
+    by_ok false is = ap (λ v. chrome_in v.tabs v.focus r) (unchanged H J e is)
+    by_ok true is = rw is (accepted_kept H J e.act r (tabs_sound H J run.1) (ap (λ (o : Outcome). is_ok o.head) (sym run.0) ∙ is) (rw is at other))

@@ -1,4 +1,7 @@
+pub mod Inductions
 pub mod Folds
+pub mod ChangeFolds
+pub mod Due
 pub mod Fresh
 pub mod Changes
 pub mod JarSteps
@@ -7,6 +10,6 @@ pub mod AgreeTabs
 pub mod AgreeCookies
 pub mod AgreeInput
 pub mod Isolated
-pub mod Alone
 pub mod Chrome
 pub mod Shown
+pub mod Denials

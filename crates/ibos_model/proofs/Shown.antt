@@ -1,13 +1,10 @@
 -- The address bar begins with the active instance's whole origin.
-use Rattle.std.proofs.Common.{◌≡◌, ℕ, zero, suc, ◌≤◌, List, [], ◌∷◌, ◌++◌, Bool, true, false, Option, Some, None, Ok, Err, Result, refl, sym, ◌∙◌, ap, subst, append_assoc, arith}
-use Rattle.std.specs.Prelude.{if◌then◌else◌, bytes_eq, nat_lt, ◌&&◌, length, take, map, codes, IfOk}
+use Rattle.std.proofs.Common.{◌≡◌, ℕ, zero, suc, ◌≤◌, List, [], ◌∷◌, ◌++◌, Bool, true, false, Option, Some, Ok, Err, Result, refl, sym, ◌∙◌, ap, subst, append_assoc, arith}
+use Rattle.std.specs.Prelude.{if◌then◌else◌, nat_lt, ◌&&◌, length, take, map, codes, IfOk}
 use Rattle.std.proofs.lemmas.Bool.Decides.{nat_tests}
 use Rattle.std.proofs.lemmas.Slice.Eq.{bytes_eq-Decides}
 use Rattle.ibos_kinds.specs.declared.names.Instance.{Instance}
-use Rattle.ibos_kinds.specs.declared.names.Key.TheVariants.{Enter}
 use Rattle.ibos_kinds.specs.declared.rule.Rule.{Rule}
-use Rattle.ibos_kinds.specs.declared.act.Act.{Act}
-use Rattle.ibos_kinds.specs.declared.act.Act.TheVariants.{Start, Close, Press, Go}
 use Rattle.std.specs.List.{list_all}
 use Rattle.ibos_kinds.specs.Screens.{columns, is_pixel}
 use Rattle.ibos_origin.specs.Hosts.{HostTable}
@@ -16,11 +13,12 @@ use Rattle.ibos_origin.specs.Tables.{HasPlainNames}
 use Rattle.ibos_origin.proofs.Begins.{Begins, allowed_begins}
 use Rattle.ibos_origin.proofs.Plain.{allowed_plain}
 use Rattle.ibos_model.specs.Journal.{Journal, is_accepted, same}
-use Rattle.ibos_model.specs.Focus.{focus_of}
-use Rattle.ibos_model.specs.Tabs.{Tabs, Change, Opens, Moves, Ends, changed, changed_by, changes, opening, end, leave, entering, active_in, active_of, tabs, next_in, no_tabs, if_ok, origin_with, origin_in}
+use Rattle.ibos_model.specs.Tabs.{Tabs, Change, Opens, Moves, Ends, changed, tabs, origin_with, origin_in}
 use Rattle.ibos_model.specs.Screen.{shown_byte, bar_text, bar_of}
 use Rattle.ibos_model.specs.Laws.{IsOriginShown}
 use Rattle.ibos_model.proofs.Folds.{same-true}
+use Rattle.ibos_model.proofs.ChangeFolds.{tabs_keep}
+use Rattle.ibos_model.proofs.Due.{MayShow, IsDue, changes_due}
 
 -- the URL begins with the origin, which has at most 72 bytes, and these are printable
 abbrev Fits : List ℕ → List ℕ → Type 0
@@ -41,11 +39,6 @@ AllFit t = (p : Instance) → Fits (origin_in t p) (t.url p)
 
 -- ---- changes
 
-abbrev Keeps : Tabs → Change → Type 0
-Keeps t (Opens who page) = Fits page.origin page.url
-Keeps t (Moves who url) = Fits (origin_in t who) url
-Keeps t (Ends who) = Unit {0}
-
 opened_fits : (t : Tabs) (page : Page) (p : Instance) (here : Bool) → Fits page.origin page.url → Fits (origin_in t p) (t.url p)
     → Fits (origin_with (if here then Some page else t.page p)) (if here then page.url else t.url p)
 opened_fits t page p true new old = new
@@ -56,57 +49,24 @@ moved_fits : (t : Tabs) (who p : Instance) (url : List ℕ) (here : Bool) → sa
 moved_fits t who p url true is new old = subst (λ (q : Instance). Fits (origin_in t q) url) (same-true who p is) new
 moved_fits t who p url false is new old = old
 
-changed_fit : (t : Tabs) (c : Change) → AllFit t → Keeps t c → AllFit (changed t c)
-changed_fit t (Opens who page) fit keeps p = opened_fits t page p (same who p) keeps (fit p)
-changed_fit t (Moves who url) fit keeps p = moved_fits t who p url (same who p) refl keeps (fit p)
-changed_fit t (Ends who) fit keeps p = fit p
-
-abbrev KeepsAll : Tabs → List Change → Type 0
-KeepsAll t [] = Unit {0}
-KeepsAll t (c ∷ cs) = Keeps t c × KeepsAll (changed t c) cs
-
-changed_by_fit : (t : Tabs) (cs : List Change) → AllFit t → KeepsAll t cs → AllFit (changed_by t cs)
-changed_by_fit t [] fit keeps = fit
-changed_by_fit t (c ∷ cs) fit keeps = changed_by_fit (changed t c) cs (changed_fit t c fit keeps.0) keeps.1
-
--- ---- the changes of acts
-
-if_ok_keeps : (t : Tabs) (ok : Bool) (cs : List Change) → KeepsAll t cs → KeepsAll t (if_ok ok cs)
-if_ok_keeps t true cs keeps = keeps
-if_ok_keeps t false cs keeps = tt
-
-opening_keeps : (t : Tabs) (tab : ℕ) (r : Result Page Rule) → IfOk r IsFit → KeepsAll t (opening t tab r)
-opening_keeps t tab (Ok page) begins = (begins, tt)
-opening_keeps t tab (Err rule) begins = tt
-
-end_keeps : (t : Tabs) (live : Option Instance) → KeepsAll t (end live)
-end_keeps t None = tt
-end_keeps t (Some who) = (tt, tt)
-
-leave_keeps : (t : Tabs) (who : Instance) (r : Result Page Rule) → IfOk r IsFit → KeepsAll t (leave t who r)
-leave_keeps t who (Err rule) begins = tt
-leave_keeps t who (Ok page) begins = either (bytes_eq page.origin (origin_in t who)) refl
+may_fit : (H : HostTable) → HasPlainNames H → (page : Page) → MayShow H page → IsFit page
+may_fit H plain page may = by_page (allowed_fit H may.0 plain) may.1
   where
-    either : (b : Bool) → bytes_eq page.origin (origin_in t who) ≡ b → KeepsAll t (if b then Moves who page.url ∷ [] else Ends who ∷ Opens (next_in t who.tab) page ∷ [])
-    either true is = (subst (λ (o : List ℕ). Fits o page.url) ((bytes_eq-Decides page.origin (origin_in t who)).0 is) begins, tt)
-    either false is = (tt, (begins, tt))
+    by_page : IfOk (allowed H may.0) IsFit → allowed H may.0 ≡ Ok page → IsFit page
+    by_page fit is = subst (λ (r : Result Page Rule). IfOk r IsFit) is fit
 
-entering_keeps : (t : Tabs) (active : Option Instance) (r : Result Page Rule) → IfOk r IsFit → KeepsAll t (entering t active r)
-entering_keeps t None r begins = tt
-entering_keeps t (Some who) r begins = leave_keeps t who r begins
-
-changes_keep : (H : HostTable) → HasPlainNames H → (J : Journal) (ok : Bool) (a : Act) → KeepsAll (tabs H J) (changes H (tabs H J) (focus_of J) ok a)
-changes_keep H plain J ok (Start tab url) = if_ok_keeps (tabs H J) ok (opening (tabs H J) tab (allowed H url)) (opening_keeps (tabs H J) tab (allowed H url) (allowed_fit H url plain))
-changes_keep H plain J ok (Close tab) = if_ok_keeps (tabs H J) ok (end ((tabs H J).live tab)) (end_keeps (tabs H J) ((tabs H J).live tab))
-changes_keep H plain J ok (Press Enter) = if_ok_keeps (tabs H J) (ok && (focus_of J).at_entry) (entering (tabs H J) (active_in (tabs H J) (focus_of J)) (allowed H (focus_of J).entry))
-    (entering_keeps (tabs H J) (active_in (tabs H J) (focus_of J)) (allowed H (focus_of J).entry) (allowed_fit H (focus_of J).entry plain))
-changes_keep H plain J ok (Go who url) = if_ok_keeps (tabs H J) ok (leave (tabs H J) who (allowed H url)) (leave_keeps (tabs H J) who (allowed H url) (allowed_fit H url plain))
-changes_keep H plain J ok other = tt
+changed_fit : (H : HostTable) → HasPlainNames H → (t : Tabs) (c : Change) → AllFit t → IsDue ⊥ H t c → AllFit (changed t c)
+changed_fit H plain t (Opens who page) fit due p = opened_fits t page p (same who p) (may_fit H plain page due.2) (fit p)
+changed_fit H plain t (Moves who url) fit due p =
+    let to = due.1 in
+    let fits : Fits to.0.origin to.0.url = may_fit H plain to.0 to.1 in
+    let here : Fits (origin_in t who) to.0.url = subst (λ (o : List ℕ). Fits o to.0.url) ((bytes_eq-Decides to.0.origin (origin_in t who)).0 to.3) fits in
+    moved_fits t who p url (same who p) refl (subst (λ (u : List ℕ). Fits (origin_in t who) u) (sym to.2) here) (fit p)
+changed_fit H plain t (Ends who) fit due p = fit p
 
 tabs_fit : (H : HostTable) → HasPlainNames H → (J : Journal) → AllFit (tabs H J)
-unfolding tabs
-tabs_fit H plain [] = λ p. ((([], refl), refl), refl)
-tabs_fit H plain (e ∷ J) = changed_by_fit (tabs H J) (changes H (tabs H J) (focus_of J) (is_accepted e) e.act) (tabs_fit H plain J) (changes_keep H plain J (is_accepted e) e.act)
+tabs_fit H plain J = tabs_keep H (λ K. Unit {0}) (IsDue ⊥ H) AllFit (λ p. ((([], refl), refl), refl)) (changed_fit H plain) (λ K e good. tt)
+    (λ K e good fit. changes_due ⊥ H K e.act (is_accepted e) absurd absurd) J tt
 
 -- ---- the bar
 

@@ -1,9 +1,12 @@
 -- What concerns one instance of one origin.
-use Rattle.std.specs.Prelude.{ℕ, ◌≡◌, ◌≢◌, List, [], ◌∷◌, ◌++◌, ◌-◌, Bool, false, not, ◌&&◌, nat_lt, bytes_eq, Option, if◌then◌else◌}
+use Rattle.std.specs.Prelude.{ℕ, ◌≡◌, ◌≢◌, List, [], ◌∷◌, ◌++◌, ◌-◌, Bool, not, ◌&&◌, nat_lt, bytes_eq, Option, if◌then◌else◌}
 use Rattle.ibos_kinds.specs.declared.names.Instance.{Instance}
 use Rattle.ibos_kinds.specs.declared.act.Act.{Act}
-use Rattle.ibos_kinds.specs.declared.act.Act.TheVariants.{Press, Click, Go, Draw, CookieSet, CookieGet}
+use Rattle.ibos_kinds.specs.declared.act.Act.TheVariants.{Press, Click, CookieSet}
+use Rattle.ibos_kinds.specs.declared.party.Party.TheVariants.{Page}
+use Rattle.ibos_kinds.specs.Parties.{is_by}
 use Rattle.ibos_origin.specs.Hosts.{HostTable}
+use Rattle.ibos_model.specs.Folds.{in_order}
 use Rattle.ibos_model.specs.Journal.{Entry, Journal, is_accepted, same}
 use Rattle.ibos_kinds.specs.Keyboard.{key_byte}
 use Rattle.ibos_kinds.specs.Screens.{chrome_rows}
@@ -22,14 +25,6 @@ pub data Fact : Type 0 where
 -- the fact, if the test holds
 abbrev pub when : Bool → Fact → List Fact
 when test fact = if test then fact ∷ [] else []
-
--- the act's actor is a process of the instance
-abbrev pub is_own : Instance → Act → Bool
-is_own p (CookieSet side who text) = same who p
-is_own p (CookieGet side who) = same who p
-is_own p (Go who url) = same who p
-is_own p (Draw who row col height width pixels) = same who p
-is_own p other = false
 
 -- a change that the instance did not make; within its own act it is told by that
 abbrev pub change_fact : Instance → Bool → Change → List Fact
@@ -54,15 +49,14 @@ hits p active at_entry ok other = []
 -- what one entry adds
 abbrev pub facts_at : HostTable → Instance → List ℕ → Journal → Entry → List Fact
 facts_at H p o J e =
-    when (is_own p e.act) (Own e.act)
+    when (is_by (Page p) e.act) (Own e.act)
     ++ (hits p (active_of H J) (focus_of J).at_entry (is_accepted e) e.act
     ++ (others (origin_of H J) p o (is_accepted e) e.act
-    ++ change_facts p (is_own p e.act) (changes H (tabs H J) (focus_of J) (is_accepted e) e.act)))
+    ++ change_facts p (is_by (Page p) e.act) (changes H (tabs H J) (focus_of J) (is_accepted e) e.act)))
 
 -- the facts in the journal's order
 abbrev pub facts : HostTable → Instance → List ℕ → Journal → List Fact
-facts H p o [] = []
-facts H p o (e ∷ J) = facts H p o J ++ facts_at H p o J e
+facts H p o J = in_order (facts_at H p o) J
 
 -- the instance never started, or it has this origin
 abbrev pub Suits : HostTable → Instance → List ℕ → Journal → Type 0

@@ -1,6 +1,6 @@
 -- Journals: what was done, and what came of it. The host table of the run stands beside the journal.
-use Rattle.std.specs.Prelude.{ℕ, List, Bool, true, false, ◌&&◌, ◌==◌}
-use Rattle.ibos_kinds.specs.declared.names.Instance.{Instance}
+use Rattle.std.specs.Prelude.{ℕ, List, Bool, true, false}
+pub use Rattle.ibos_kinds.specs.Parties.{same}
 use Rattle.ibos_kinds.specs.declared.act.Act.{Act}
 use Rattle.ibos_kinds.specs.declared.outcome.Head.{Head}
 use Rattle.ibos_kinds.specs.declared.outcome.Head.TheVariants.{Ok, Denied}
@@ -22,6 +22,3 @@ is_ok (Denied rule) = false
 
 abbrev pub is_accepted : Entry → Bool
 is_accepted e = is_ok e.outcome.head
-
-abbrev pub same : Instance → Instance → Bool
-same p q = p.tab == q.tab && p.ord == q.ord

@@ -1,37 +1,42 @@
 -- The laws of journals.
-use Rattle.std.specs.Prelude.{ℕ, ◌≡◌, List, ◌∷◌, ◌++◌, Bool, true, false, ◌&&◌, ◌||◌, length, take, Option, Some}
+use Rattle.std.specs.Prelude.{ℕ, ◌≡◌, List, ◌∷◌, ◌++◌, Bool, false, ◌&&◌, ◌||◌, length, take, Option, Some}
 use Rattle.ibos_kinds.specs.declared.names.Instance.{Instance}
 use Rattle.ibos_kinds.specs.declared.act.Act.{Act}
 use Rattle.ibos_origin.specs.Hosts.{HostTable}
 use Rattle.ibos_origin.specs.Tables.{HasPlainNames}
-use Rattle.ibos_kinds.specs.declared.act.Act.TheVariants.{Start, Switch, Close, Press, Click, Look, Go}
+use Rattle.ibos_kinds.specs.declared.act.Act.TheVariants.{Go}
 use Rattle.ibos_model.specs.Journal.{Entry, Journal, is_accepted}
-use Rattle.ibos_model.specs.Focus.{is_active}
-use Rattle.ibos_model.specs.Tabs.{origin_of, active_of}
-use Rattle.ibos_model.specs.Screen.{chrome_of}
+use Rattle.ibos_kinds.specs.declared.cookies.Cookie.{Cookie}
+use Rattle.ibos_model.specs.Focus.{Focus, focus_of, is_active}
+use Rattle.ibos_model.specs.Tabs.{Tabs, tabs, origin_of, active_of}
+use Rattle.ibos_model.specs.Jars.{sets_of}
+use Rattle.ibos_model.specs.Screen.{chrome_of, cell_of, screen}
 use Rattle.ibos_model.specs.Runs.{IsRun, run}
 use Rattle.ibos_model.specs.Facts.{facts, Suits}
-use Rattle.ibos_model.specs.Gives.{gives, told_at, delivered}
+use Rattle.ibos_model.specs.Delivered.{told_at, delivered}
+use Rattle.ibos_model.specs.Gives.{gives}
+use Rattle.ibos_kinds.specs.declared.party.Party.TheVariants.{Page, User}
+use Rattle.ibos_kinds.specs.Parties.{is_by}
 
 -- What an instance is told depends on the facts that concern it, and on nothing else.
 abbrev pub IsIsolated : Type 0
 IsIsolated = (H : HostTable) (A : List Act) (W : List (List ℕ)) (p : Instance) (o : List ℕ) →
-    Suits H p o (run H A W) → delivered p (run H A W) ≡ gives H p o (facts H p o (run H A W))
+    Suits H p o (run H A W) → delivered (Page p) (run H A W) ≡ gives H p o (facts H p o (run H A W))
 
 -- The same of one journal.
 abbrev pub IsIsolatedIn : HostTable → Journal → Type 0
-IsIsolatedIn H J = (p : Instance) (o : List ℕ) → Suits H p o J → delivered p J ≡ gives H p o (facts H p o J)
+IsIsolatedIn H J = (p : Instance) (o : List ℕ) → Suits H p o J → delivered (Page p) J ≡ gives H p o (facts H p o J)
 
 -- Two runs whose facts agree deliver the same.
 abbrev pub IsIsolatedOverTwo : Type 0
 IsIsolatedOverTwo = (H : HostTable) (A B : List Act) (V W : List (List ℕ)) (p : Instance) (o : List ℕ) →
     Suits H p o (run H A V) → Suits H p o (run H B W) → facts H p o (run H A V) ≡ facts H p o (run H B W) →
-    delivered p (run H A V) ≡ delivered p (run H B W)
+    delivered (Page p) (run H A V) ≡ delivered (Page p) (run H B W)
 
 -- What one entry tells an instance is what the facts that it adds give.
 abbrev pub IsCarried : HostTable → Journal → Entry → Type 0
 IsCarried H J e = (p : Instance) (o : List ℕ) → Suits H p o (e ∷ J) →
-    gives H p o (facts H p o (e ∷ J)) ≡ gives H p o (facts H p o J) ++ told_at p e
+    gives H p o (facts H p o (e ∷ J)) ≡ gives H p o (facts H p o J) ++ told_at (Page p) e
 
 -- The same of every entry of every run.
 abbrev pub IsCarriedAlways : Type 0
@@ -39,13 +44,7 @@ IsCarriedAlways = (H : HostTable) (J : Journal) (e : Entry) → IsRun H (e ∷ J
 
 -- the act is one of the user
 abbrev pub is_users : Act → Bool
-is_users (Start tab url) = true
-is_users (Switch tab) = true
-is_users (Close tab) = true
-is_users (Press key) = true
-is_users (Click row col) = true
-is_users Look = true
-is_users other = false
+is_users act = is_by User act
 
 -- the act is the active instance's own going
 abbrev pub goes_active : Option Instance → Act → Bool
@@ -63,3 +62,18 @@ IsChromeKept = (H : HostTable) (J : Journal) (e : Entry) (r : ℕ) → IsRun H (
 abbrev pub IsOriginShown : Type 0
 IsOriginShown = (H : HostTable) (J : Journal) (who : Instance) → HasPlainNames H → active_of H J ≡ Some who →
     take (length (origin_of H J who)) (chrome_of H J 1) ≡ origin_of H J who
+
+-- all that a journal says
+pub record Views : Type 0 where
+  pub tabs : Tabs
+  pub focus : Focus
+  pub sets : List ℕ → List Cookie
+  pub cells : Instance → ℕ → ℕ → ℕ
+  pub screen : ℕ → ℕ → ℕ
+
+abbrev pub views : HostTable → Journal → Views
+views H J = record { tabs = tabs H J; focus = focus_of J; sets = sets_of H J; cells = cell_of J; screen = screen H J }
+
+-- A denied entry changes nothing.
+abbrev pub IsUnchanged : Type 0
+IsUnchanged = (H : HostTable) (J : Journal) (e : Entry) → is_accepted e ≡ false → views H (e ∷ J) ≡ views H J

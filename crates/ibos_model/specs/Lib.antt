@@ -1,3 +1,4 @@
+pub mod Folds
 pub mod Journal
 pub mod Focus
 pub mod Tabs
@@ -6,6 +7,7 @@ pub mod Screen
 pub mod Rows
 pub mod Runs
 pub mod Facts
+pub mod Delivered
 pub mod Gives
 pub mod Laws
 pub mod Text

@@ -1,6 +1,9 @@
 -- The outcome of each act: the first broken rule of its row, or the row's items.
 use Rattle.std.specs.Prelude.{ℕ, ◌+◌, ◌-◌, zero, suc, List, [], ◌∷◌, not, nat_lt, Ok, Err, Result, Option, Some, None, bytes_eq, if◌then◌else◌}
 use Rattle.ibos_kinds.specs.declared.names.Instance.{Instance}
+use Rattle.ibos_kinds.specs.declared.party.Party.{Party}
+use Rattle.ibos_kinds.specs.declared.party.Party.TheVariants.{Page as PageOf}
+use Rattle.ibos_kinds.specs.Parties.{actor}
 use Rattle.ibos_kinds.specs.declared.rule.Rule.{Rule}
 use Rattle.ibos_kinds.specs.declared.rule.Rule.TheVariants.{U1, U2, U3, U10, U12, P1, P2}
 use Rattle.ibos_kinds.specs.declared.names.Key.{Key}
@@ -112,15 +115,24 @@ look_row f = accepted (rows_from 0 (chrome_rows + content_rows) f)
 abbrev pub draw_row : ℕ → ℕ → ℕ → ℕ → List ℕ → Outcome
 draw_row row col height width pixels = answer (draw_breaks row col height width pixels)
 
+-- the row of an act after a journal, where its actor may act
+abbrev pub row_of : HostTable → Journal → Act → Outcome
+row_of H J (Start tab url) = start_row ((tabs H J).live tab) (next_in (tabs H J) tab) (allowed H url)
+row_of H J (Switch tab) = switch_row ((tabs H J).live tab)
+row_of H J (Close tab) = close_row ((tabs H J).live tab)
+row_of H J (Press key) = press_row H (tabs H J) (focus_of J) (active_of H J) key
+row_of H J (Click row col) = click_row (active_of H J) row col
+row_of H J Look = look_row (seen_row (screen H J))
+row_of H J (Draw who row col height width pixels) = draw_row row col height width pixels
+row_of H J (Go who url) = go_row who (origin_of H J who) (next_in (tabs H J) who.tab) (allowed H url)
+row_of H J (CookieSet side who text) = set_row text (sets_of H J (origin_of H J who))
+row_of H J (CookieGet side who) = get_row who (sets_of H J (origin_of H J who))
+
+-- an instance acts while it lives, and all others always
+abbrev pub life_of_party : (Instance → Life) → Party → Life
+life_of_party life (PageOf who) = life who
+life_of_party life other = Alive
+
 -- the outcome of an act after a journal
 abbrev pub out : HostTable → Journal → Act → Outcome
-out H J (Start tab url) = start_row ((tabs H J).live tab) (next_in (tabs H J) tab) (allowed H url)
-out H J (Switch tab) = switch_row ((tabs H J).live tab)
-out H J (Close tab) = close_row ((tabs H J).live tab)
-out H J (Press key) = press_row H (tabs H J) (focus_of J) (active_of H J) key
-out H J (Click row col) = click_row (active_of H J) row col
-out H J Look = look_row (seen_row (screen H J))
-out H J (Draw who row col height width pixels) = admitted (life_of H J who) (draw_row row col height width pixels)
-out H J (Go who url) = admitted (life_of H J who) (go_row who (origin_of H J who) (next_in (tabs H J) who.tab) (allowed H url))
-out H J (CookieSet side who text) = admitted (life_of H J who) (set_row text (sets_of H J (origin_of H J who)))
-out H J (CookieGet side who) = admitted (life_of H J who) (get_row who (sets_of H J (origin_of H J who)))
+out H J a = admitted (life_of_party (life_of H J) (actor a)) (row_of H J a)

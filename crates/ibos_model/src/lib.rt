@@ -2,7 +2,7 @@
 //! run here: each function is a law, which its contract states.
 #![tactic(auto)]
 
-ghost use Rattle.ibos_model.specs.Laws.{IsIsolated, IsIsolatedOverTwo, IsCarriedAlways, IsChromeKept, IsOriginShown};
+ghost use Rattle.ibos_model.specs.Laws.{IsIsolated, IsIsolatedOverTwo, IsCarriedAlways, IsChromeKept, IsOriginShown, IsUnchanged};
 
 /// In every run each instance is told what the facts that concern it give, whatever else happens.
 pub fn isolation()
@@ -29,4 +29,9 @@ pub fn chrome_is_kept()
 /// host table has plain names, as each one has that was read (`ibos_origin::hosts_have_plain_names`).
 pub fn origins_show_whole()
     ensures { IsOriginShown }
+{}
+
+/// A denied act changes nothing.
+pub fn denials_change_nothing()
+    ensures { IsUnchanged }
 {}

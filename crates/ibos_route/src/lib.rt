@@ -1,9 +1,7 @@
-//! Who may act, and who is told.
+//! Who may act.
 #![tactic(auto)]
 
 mod party;
 
-pub use party::{Party, admit, told};
+pub use party::admit;
 
-#[cfg(test)]
-mod tests;

@@ -1,5 +1,5 @@
 -- The pieces of a line that tells of a cell, as its text has them.
-use Rattle.std.proofs.Common.{◌≡◌, ℕ, List, [], ◌∷◌, ◌++◌, append_assoc, append-nil}
+use Rattle.std.proofs.Common.{◌≡◌, ℕ, List, [], ◌++◌, append_assoc}
 use Rattle.std.specs.Prelude.{codes}
 use Rattle.ibos_script.specs.Printed.{line_text}
 

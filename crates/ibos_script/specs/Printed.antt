@@ -9,6 +9,9 @@ use Rattle.ibos_kinds.specs.declared.outcome.Head.TheVariants.{Ok, Denied}
 use Rattle.ibos_kinds.specs.declared.outcome.Item.{Item}
 use Rattle.ibos_kinds.specs.declared.outcome.Item.TheVariants.{Opened, Moved, Ended, KeyTo, ClickTo, Cookies, RowIs}
 use Rattle.ibos_kinds.specs.declared.outcome.Outcome.{Outcome}
+use Rattle.ibos_kinds.specs.declared.party.Party.{Party}
+use Rattle.ibos_kinds.specs.declared.party.Party.TheVariants.{Page, Driver, Store, User, Wire, Log}
+use Rattle.ibos_kinds.specs.Parties.{addressee}
 use Rattle.ibos_kinds.specs.Texts.{code_of, name_of}
 
 -- a line: the number, a space, what it says, and the line's end
@@ -28,15 +31,28 @@ unfoldable pub or_dash : List ℕ → List ℕ
 or_dash [] = codes "-"
 or_dash (b ∷ bytes) = b ∷ bytes
 
+-- a party's name
+abbrev pub party_text : Party → List ℕ
+party_text (Page who) = instance_text who
+party_text Driver = codes "dev"
+party_text Store = codes "store"
+party_text User = codes "user"
+party_text Wire = codes "wire"
+party_text Log = codes "log"
+
+-- what an item tells
+abbrev pub told_text : Item → List ℕ
+told_text (Opened who url) = codes " opened " ++ url
+told_text (Moved who url) = codes " at " ++ url
+told_text (Ended who) = codes " ended"
+told_text (KeyTo who byte) = codes " key " ++ encode_lower (byte ∷ [])
+told_text (ClickTo who row col) = codes " click " ++ decimal row ++ codes " " ++ decimal col
+told_text (Cookies who text) = codes " cookies " ++ or_dash text
+told_text (RowIs row text) = codes " row " ++ decimal row ++ codes " |" ++ text
+
 -- whom an item is for, and what it tells
 unfoldable pub item_text : Item → List ℕ
-item_text (Opened who url) = instance_text who ++ codes " opened " ++ url
-item_text (Moved who url) = instance_text who ++ codes " at " ++ url
-item_text (Ended who) = instance_text who ++ codes " ended"
-item_text (KeyTo who byte) = instance_text who ++ codes " key " ++ encode_lower (byte ∷ [])
-item_text (ClickTo who row col) = instance_text who ++ codes " click " ++ decimal row ++ codes " " ++ decimal col
-item_text (Cookies who text) = instance_text who ++ codes " cookies " ++ or_dash text
-item_text (RowIs row text) = codes "user row " ++ decimal row ++ codes " |" ++ text
+item_text item = party_text (addressee item) ++ told_text item
 
 -- one line for each item
 abbrev pub items_text : List ℕ → List Item → List ℕ

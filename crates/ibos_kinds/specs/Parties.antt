@@ -1,0 +1,52 @@
+-- Who acts, and who is told.
+use Rattle.std.specs.Prelude.{Bool, true, false, ◌==◌, ◌&&◌}
+use Rattle.ibos_kinds.specs.declared.names.Instance.{Instance}
+use Rattle.ibos_kinds.specs.declared.act.Act.{Act}
+use Rattle.ibos_kinds.specs.declared.act.Act.TheVariants.{Start, Switch, Close, Press, Click, Look, Go, Draw, CookieSet, CookieGet}
+use Rattle.ibos_kinds.specs.declared.outcome.Item.{Item}
+use Rattle.ibos_kinds.specs.declared.outcome.Item.TheVariants.{Opened, Moved, Ended, KeyTo, ClickTo, Cookies, RowIs}
+use Rattle.ibos_kinds.specs.declared.party.Party.{Party}
+use Rattle.ibos_kinds.specs.declared.party.Party.TheVariants.{Page, Driver, Store, User, Wire, Log}
+
+-- the party that acts
+abbrev pub actor : Act → Party
+actor (Start tab url) = User
+actor (Switch tab) = User
+actor (Close tab) = User
+actor (Press key) = User
+actor (Click row col) = User
+actor Look = User
+actor (Go who url) = Page who
+actor (Draw who row col height width pixels) = Page who
+actor (CookieSet side who text) = Page who
+actor (CookieGet side who) = Page who
+
+-- the party that an item is addressed to
+abbrev pub addressee : Item → Party
+addressee (Opened who url) = Page who
+addressee (Moved who url) = Page who
+addressee (Ended who) = Page who
+addressee (KeyTo who byte) = Page who
+addressee (ClickTo who row col) = Page who
+addressee (Cookies who text) = Page who
+addressee (RowIs row text) = User
+
+abbrev pub same : Instance → Instance → Bool
+same p q = p.tab == q.tab && p.ord == q.ord
+
+abbrev pub same_party : Party → Party → Bool
+same_party (Page who) (Page p) = same who p
+same_party Driver Driver = true
+same_party Store Store = true
+same_party User User = true
+same_party Wire Wire = true
+same_party Log Log = true
+same_party other party = false
+
+-- the party acts
+abbrev pub is_by : Party → Act → Bool
+is_by party act = same_party (actor act) party
+
+-- the party is told the item
+abbrev pub is_to : Party → Item → Bool
+is_to party item = same_party (addressee item) party

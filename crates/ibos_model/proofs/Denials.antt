@@ -1,0 +1,55 @@
+-- A denied entry changes nothing.
+use Rattle.std.proofs.Common.{◌≡◌, ℕ, List, [], Bool, false, Option, Some, None, refl, ◌∙◌, ap}
+use Rattle.ibos_kinds.specs.declared.names.Instance.{Instance}
+use Rattle.ibos_kinds.specs.declared.names.Key.TheVariants.{Byte}
+use Rattle.ibos_kinds.specs.declared.act.Act.{Act}
+use Rattle.ibos_kinds.specs.declared.act.Act.TheVariants.{Press}
+use Rattle.ibos_kinds.specs.declared.cookies.Cookie.{Cookie}
+use Rattle.ibos_origin.specs.Hosts.{HostTable}
+use Rattle.ibos_model.specs.Focus.{Focus, focus_by, focus_of}
+use Rattle.ibos_model.specs.Tabs.{Tabs, changes, changed_by, tabs, origin_in, active_in}
+use Rattle.ibos_model.specs.Jars.{sets_by, sets_of}
+use Rattle.std.specs.Prelude.{if◌then◌else◌, nat_lt, slice_index, ◌-◌}
+use Rattle.ibos_kinds.specs.Screens.{chrome_rows, space}
+use Rattle.ibos_model.specs.Screen.{cell_by, cell_of, chrome_in, padded, screen}
+use Rattle.ibos_model.specs.Laws.{Views, IsUnchanged}
+
+-- what a denied act does to each view
+pub record IsStill (H : HostTable) (t : Tabs) (f : Focus) (origins : Instance → List ℕ) (sets : List ℕ → List Cookie) (cells : Instance → ℕ → ℕ → ℕ) (a : Act) : Type 0 where
+  pub changes : changes H t f false a ≡ []
+  pub focus : focus_by false a f ≡ f
+  pub sets_are : (λ (o : List ℕ). sets_by origins o false a (sets o)) ≡ sets
+  pub cells_are : (λ (p : Instance) (r c : ℕ). cell_by p r c false a (cells p r c)) ≡ cells
+
+still : (H : HostTable) (t : Tabs) (f : Focus) (origins : Instance → List ℕ) (sets : List ℕ → List Cookie) (cells : Instance → ℕ → ℕ → ℕ) (a : Act) → IsStill H t f origins sets cells a
+still H t f origins sets cells (Press (Byte byte)) = record { changes = refl; focus = refl; sets_are = refl; cells_are = refl }
+still H t f origins sets cells other = record { changes = refl; focus = refl; sets_are = refl; cells_are = refl }
+
+-- the views, from their parts
+abbrev shown : Tabs → Focus → (Instance → ℕ → ℕ → ℕ) → Option Instance → ℕ → ℕ → ℕ
+shown t f cells active r c =
+    if nat_lt r chrome_rows then slice_index (padded (chrome_in t f r)) c
+    else content active (r - chrome_rows) c
+  where
+    content : Option Instance → ℕ → ℕ → ℕ
+    content None r c = space
+    content (Some who) r c = cells who r c
+
+abbrev seen : Tabs → Focus → (List ℕ → List Cookie) → (Instance → ℕ → ℕ → ℕ) → Views
+seen t f sets cells = record { tabs = t; focus = f; sets = sets; cells = cells; screen = shown t f cells (active_in t f) }
+
+abbrev seen_after : HostTable → Tabs → Focus → (List ℕ → List Cookie) → (Instance → ℕ → ℕ → ℕ) → Bool → Act → Views
+seen_after H t f sets cells ok a = seen (changed_by t (changes H t f ok a)) (focus_by ok a f) (λ o. sets_by (origin_in t) o ok a (sets o)) (λ p r c. cell_by p r c ok a (cells p r c))
+
+seen_still : (H : HostTable) (t : Tabs) (f : Focus) (sets : List ℕ → List Cookie) (cells : Instance → ℕ → ℕ → ℕ) (a : Act) → IsStill H t f (origin_in t) sets cells a → seen_after H t f sets cells false a ≡ seen t f sets cells
+seen_still H t f sets cells a is =
+    ap (λ cs. seen (changed_by t cs) (focus_by false a f) (λ o. sets_by (origin_in t) o false a (sets o)) (λ p r c. cell_by p r c false a (cells p r c))) is.changes
+    ∙ ap (λ g. seen t g (λ o. sets_by (origin_in t) o false a (sets o)) (λ p r c. cell_by p r c false a (cells p r c))) is.focus
+    ∙ ap (λ s. seen t f s (λ p r c. cell_by p r c false a (cells p r c))) is.sets_are
+    ∙ ap (λ x. seen t f sets x) is.cells_are
+
+pub unchanged : IsUnchanged
+unfolding tabs focus_of sets_of cell_of screen
+unchanged H J e is =
+    ap (λ ok. seen_after H (tabs H J) (focus_of J) (sets_of H J) (cell_of J) ok e.act) is
+    ∙ seen_still H (tabs H J) (focus_of J) (sets_of H J) (cell_of J) e.act (still H (tabs H J) (focus_of J) (origin_in (tabs H J)) (sets_of H J) (cell_of J) e.act)
