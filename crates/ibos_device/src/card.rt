@@ -1,5 +1,5 @@
 //! What both devices do with their registers, their log and the memory.
-ghost use Rattle.std.specs.Prelude.{◌≡◌, ◌≢◌, ◌<◌, ◌≤◌, ◌-◌, ◌^◌, ◌↔◌, [], ◌∷◌, length, reverse, IfOk, IsTrue, OnErr, OnOk};
+ghost use Rattle.std.specs.Prelude.{◌≡◌, ◌≢◌, ◌<◌, ◌≤◌, ◌-◌, ◌^◌, ◌↔◌, [], ◌∷◌, length, IsTrue, Ok};
 ghost use Rattle.ibos_pool.specs.declared.name.Ring.TheVariants.{Receive, Transmit};
 ghost use Rattle.ibos_nic.specs.declared.reg.Reg.{Reg};
 ghost use Rattle.ibos_nic.specs.declared.reg.Reg.TheVariants.{Ctrl, Status};
@@ -9,13 +9,11 @@ ghost use Rattle.ibos_nic.specs.Registers.{after_heard, after_missed, after_read
 ghost use Rattle.ibos_nic.specs.Device.{IsInItsRing, IsReceived, IsTransmitted, MayReceive, MayTransmit, OnHeard, OnSent, OnUnheard, OnUnsent, after_arrive, after_transmit, frame_at, is_for_us, verdict_of};
 ghost use Rattle.ibos_device.specs.Cards.{index_of, regs_of};
 
+use crate::history::History;
 use crate::memory;
-use ibos_kinds::{Memory, Verdict};
-use ibos_nic::{
-    ENABLE, LEAST_FRAME, LogEntry, MOST_FRAME, RECEIVE_OVERRUN, RECEIVED, Reg, TRANSMITTED,
-};
+use ibos_kinds::Verdict;
+use ibos_nic::{ENABLE, LEAST_FRAME, MOST_FRAME, RECEIVE_OVERRUN, RECEIVED, Reg, TRANSMITTED};
 use ibos_pool::{DESCRIPTOR_BYTES, Mem, RING_SLOTS};
-use std::alloc::Global;
 use std::marker::Model;
 
 // How many registers have a value of their own: all but CTRL and STATUS.
@@ -24,22 +22,23 @@ const STORED: usize = 18;
 // What STATUS is at all times.
 const STATUS: u32 = 0x0000_0003;
 
-/// The registers and the log of a device.
+/// The registers and the log of a device. Only contracts read the log, but for whether it is empty.
 #[derive(Drop)]
 pub(crate) struct Card {
     values: [u32; STORED],
-    entries: Vec<LogEntry>,
+    is_silent: bool,
+    history: History,
 }
 
 impl Model for Card {
-    ghost use Rattle.std.specs.Prelude.{◌≡◌, length, reverse};
+    ghost use Rattle.std.specs.Prelude.{◌≡◌, ◌↔◌, [], length, IsTrue};
     ghost use Rattle.ibos_device.specs.Cards.{State};
 
     ghost Value = { State };
 
-    ghost view = { λ c. record { values = c.values; log = reverse c.entries.items } };
+    ghost view = { λ c. record { values = c.values; log = c.history.entries } };
 
-    ghost invariant = { λ c. length c.values ≡ 18 };
+    ghost invariant = { λ c. (length c.values ≡ 18) × (IsTrue c.is_silent ↔ (c.history.entries ≡ [])) };
 }
 
 fn index(reg: Reg) -> usize
@@ -82,28 +81,22 @@ fn next_slot(slot: u32) -> u32
 }
 
 impl Card {
-    /// A device at reset, whose log is empty. Takes no memory.
-    pub(crate) fn new(alloc: Global) -> Card
+    /// A device at reset, whose log is empty.
+    pub(crate) fn new() -> Card
         ensures registers { (r : Reg) → regs_of result r ≡ reset r }
         ensures log { result.log ≡ [] }
     {
         Card {
             values: [0; STORED],
-            entries: Vec::new(alloc),
+            is_silent: true,
+            history: History::new(),
         }
-    }
-
-    /// The log, the oldest entry first.
-    pub(crate) fn entries(&self) -> &[LogEntry]
-        ensures { self.now.log ≡ reverse result.now }
-    {
-        self.entries.as_slice()
     }
 
     pub(crate) fn at_reset(&self) -> bool
         ensures { IsTrue result ↔ (((r : Reg) → regs_of self.now r ≡ reset r) × (self.now.log ≡ [])) }
     {
-        self.has_reset_values() && self.entries.is_empty()
+        self.has_reset_values() && self.is_silent
     }
 
     fn has_reset_values(&self) -> bool
@@ -164,12 +157,19 @@ impl Card {
         self.set(Reg::Icr, self.get(Reg::Icr) | cause);
     }
 
-    fn note(&mut self, entry: LogEntry) -> Result<(), Memory>
-        ensures ok { OnOk result (self.new ≡ record self.old { log = entry ∷ self.old.log }) }
-        ensures err { OnErr result (self.new ≡ self.old) }
+    fn note_heard(&mut self, frame: &[u8], written: &[u8])
+        ensures { self.new ≡ record self.old { log = In frame.now written.now ∷ self.old.log } }
     {
-        self.entries.push(entry)?;
-        Ok(())
+        self.is_silent = false;
+        self.history.heard(frame, written);
+    }
+
+    fn note_sent(&mut self, mem: &Mem, at: u32)
+        requires { MayTransmit mem.now at }
+        ensures { self.new ≡ record self.old { log = Out (frame_at mem.now at) ∷ self.old.log } }
+    {
+        self.is_silent = false;
+        memory::note_frame(&mut self.history, mem, at);
     }
 
     #[tactic(auto, unfolding(ibos_nic::specs::Device::is_for_us))]
@@ -255,90 +255,64 @@ impl Card {
         self.set(Reg::Tdh, next);
     }
 
-    // The log comes first, since only it takes memory.
-    fn hear(
-        &mut self,
-        alloc: Global,
-        frame: &[u8],
-        written: &[u8],
-        mem: &mut Mem,
-    ) -> Result<(), Memory>
+    fn hear(&mut self, frame: &[u8], written: &[u8], mem: &mut Mem)
         requires descriptor { MayReceive mem.old (receive_head (regs_of self.old)) }
         requires size { length written.now ≤ MOST_FRAME }
-        ensures registers { OnOk result ((r : Reg) → regs_of self.new r ≡ after_heard (regs_of self.old) r) }
-        ensures log { OnOk result (self.new.log ≡ In frame.now written.now ∷ self.old.log) }
-        ensures memory { OnOk result (IsReceived mem.old mem.new (receive_head (regs_of self.old)) written.now) }
-        ensures err_registers { OnErr result ((r : Reg) → regs_of self.new r ≡ regs_of self.old r) }
-        ensures err_log { OnErr result (self.new.log ≡ self.old.log) }
-        ensures err_memory { OnErr result (mem.new ≡ mem.old) }
+        ensures registers { (r : Reg) → regs_of self.new r ≡ after_heard (regs_of self.old) r }
+        ensures log { self.new.log ≡ In frame.now written.now ∷ self.old.log }
+        ensures memory { IsReceived mem.old mem.new (receive_head (regs_of self.old)) written.now }
     {
         let at = self.receive_head();
-        self.note(LogEntry::In {
-            frame: memory::copied(alloc, frame)?,
-            written: memory::copied(alloc, written)?,
-        })?;
         memory::put_frame(mem, at, written);
+        self.note_heard(frame, written);
         self.go_on_receiving();
-        Ok(())
     }
 
-    fn send(&mut self, alloc: Global, mem: &mut Mem) -> Result<(), Memory>
+    fn send(&mut self, mem: &mut Mem)
         requires { MayTransmit mem.old (transmit_head (regs_of self.old)) }
-        ensures registers { OnOk result ((r : Reg) → regs_of self.new r ≡ after_sent (regs_of self.old) r) }
-        ensures log { OnOk result (self.new.log ≡ Out (frame_at mem.old (transmit_head (regs_of self.old))) ∷ self.old.log) }
-        ensures memory { OnOk result (IsTransmitted mem.old mem.new (transmit_head (regs_of self.old))) }
-        ensures err_registers { OnErr result ((r : Reg) → regs_of self.new r ≡ regs_of self.old r) }
-        ensures err_log { OnErr result (self.new.log ≡ self.old.log) }
-        ensures err_memory { OnErr result (mem.new ≡ mem.old) }
+        ensures registers { (r : Reg) → regs_of self.new r ≡ after_sent (regs_of self.old) r }
+        ensures log { self.new.log ≡ Out (frame_at mem.old (transmit_head (regs_of self.old))) ∷ self.old.log }
+        ensures memory { IsTransmitted mem.old mem.new (transmit_head (regs_of self.old)) }
     {
         let at = self.transmit_head();
-        self.note(LogEntry::Out {
-            sent: memory::get_frame(alloc, mem, at)?,
-        })?;
+        self.note_sent(mem, at);
         memory::put_done(mem, at);
         self.go_on_transmitting();
-        Ok(())
     }
 
     /// A frame comes, and the other bytes are written for it.
-    pub(crate) fn arrive(
-        &mut self,
-        alloc: Global,
-        frame: &[u8],
-        written: &[u8],
-        mem: &mut Mem,
-    ) -> Result<Verdict, Memory>
+    pub(crate) fn arrive(&mut self, frame: &[u8], written: &[u8], mem: &mut Mem) -> Verdict
         requires descriptor { IsTrue (can_receive (regs_of self.old)) → MayReceive mem.old (receive_head (regs_of self.old)) }
         requires size { IsTrue (is_for_us (regs_of self.old) frame.now) → length written.now ≤ MOST_FRAME }
-        ensures verdict { IfOk result (λ verdict. verdict ≡ verdict_of (regs_of self.old) frame.now) }
-        ensures registers { (r : Reg) → regs_of self.new r ≡ after_arrive result (regs_of self.old) r }
-        ensures heard_log { OnHeard result (self.new.log ≡ In frame.now written.now ∷ self.old.log) }
-        ensures heard_memory { OnHeard result (IsReceived mem.old mem.new (receive_head (regs_of self.old)) written.now) }
-        ensures unheard_log { OnUnheard result (self.new.log ≡ self.old.log) }
-        ensures unheard_memory { OnUnheard result (mem.new ≡ mem.old) }
+        ensures verdict { result ≡ verdict_of (regs_of self.old) frame.now }
+        ensures registers { (r : Reg) → regs_of self.new r ≡ after_arrive (Ok result) (regs_of self.old) r }
+        ensures heard_log { OnHeard (Ok result) (self.new.log ≡ In frame.now written.now ∷ self.old.log) }
+        ensures heard_memory { OnHeard (Ok result) (IsReceived mem.old mem.new (receive_head (regs_of self.old)) written.now) }
+        ensures unheard_log { OnUnheard (Ok result) (self.new.log ≡ self.old.log) }
+        ensures unheard_memory { OnUnheard (Ok result) (mem.new ≡ mem.old) }
     {
         let verdict = self.verdict(frame);
         match verdict {
             Verdict::Filtered => {}
             Verdict::Missed => self.miss(),
-            Verdict::Heard => self.hear(alloc, frame, written, mem)?,
+            Verdict::Heard => self.hear(frame, written, mem),
         }
-        Ok(verdict)
+        verdict
     }
 
-    pub(crate) fn transmit(&mut self, alloc: Global, mem: &mut Mem) -> Result<bool, Memory>
+    pub(crate) fn transmit(&mut self, mem: &mut Mem) -> bool
         requires { IsTrue (can_transmit (regs_of self.old)) → MayTransmit mem.old (transmit_head (regs_of self.old)) }
-        ensures sent { IfOk result (λ sent. sent ≡ can_transmit (regs_of self.old)) }
-        ensures registers { (r : Reg) → regs_of self.new r ≡ after_transmit result (regs_of self.old) r }
-        ensures sent_log { OnSent result (self.new.log ≡ Out (frame_at mem.old (transmit_head (regs_of self.old))) ∷ self.old.log) }
-        ensures sent_memory { OnSent result (IsTransmitted mem.old mem.new (transmit_head (regs_of self.old))) }
-        ensures unsent_log { OnUnsent result (self.new.log ≡ self.old.log) }
-        ensures unsent_memory { OnUnsent result (mem.new ≡ mem.old) }
+        ensures sent { result ≡ can_transmit (regs_of self.old) }
+        ensures registers { (r : Reg) → regs_of self.new r ≡ after_transmit (Ok result) (regs_of self.old) r }
+        ensures sent_log { OnSent (Ok result) (self.new.log ≡ Out (frame_at mem.old (transmit_head (regs_of self.old))) ∷ self.old.log) }
+        ensures sent_memory { OnSent (Ok result) (IsTransmitted mem.old mem.new (transmit_head (regs_of self.old))) }
+        ensures unsent_log { OnUnsent (Ok result) (self.new.log ≡ self.old.log) }
+        ensures unsent_memory { OnUnsent (Ok result) (mem.new ≡ mem.old) }
     {
         if !self.can_transmit() {
-            return Ok(false);
+            return false;
         }
-        self.send(alloc, mem)?;
-        Ok(true)
+        self.send(mem);
+        true
     }
 }

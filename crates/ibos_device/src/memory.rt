@@ -1,13 +1,13 @@
 //! What a device reads and writes in the memory, at the address of a descriptor.
-ghost use Rattle.std.specs.Prelude.{◌≡◌, ◌≤◌, length, IfOk};
+ghost use Rattle.std.specs.Prelude.{◌≡◌, ◌≤◌, ◌∷◌, length};
 ghost use Rattle.ibos_pool.specs.declared.limits.TheConstants.{DESCRIPTOR_BYTES};
 ghost use Rattle.ibos_nic.specs.declared.limits.TheConstants.{MOST_FRAME};
+ghost use Rattle.ibos_nic.specs.declared.log.LogEntry.TheVariants.{Out};
 ghost use Rattle.ibos_nic.specs.Device.{IsLentFrom, IsReceived, IsTransmitted, MayReceive, MayTransmit, frame_at, rx_at, tx_at};
 
-use ibos_kinds::{Bytes, Memory};
+use crate::history::History;
 use ibos_nic::{DONE, END_OF_PACKET, RxDesc, TxDesc};
 use ibos_pool::{BUFFER_BYTES, DESCRIPTOR_BYTES, Mem};
-use std::alloc::Global;
 
 // A lent buffer's address, as the memory takes it.
 fn short(mem: &Mem, address: u64) -> u32
@@ -59,25 +59,16 @@ pub(crate) fn put_frame(mem: &mut Mem, at: u32, written: &[u8])
     mem.dev_write(at, &bytes);
 }
 
-/// The frame that the transmit descriptor names.
-pub(crate) fn get_frame(alloc: Global, mem: &Mem, at: u32) -> Result<Bytes, Memory>
+/// Reads the frame that the transmit descriptor names, which goes out.
+pub(crate) fn note_frame(history: &mut History, mem: &Mem, at: u32)
     requires { MayTransmit mem.now at }
-    ensures { IfOk result (λ frame. frame ≡ frame_at mem.now at) }
+    ensures { history.new.entries ≡ Out (frame_at mem.now at) ∷ history.old.entries }
 {
     let descriptor = read_tx(mem, at);
     let mut room = [0; BUFFER_BYTES as usize];
-    let into = &mut room[..usize::from(descriptor.length)];
-    mem.dev_read(short(mem, descriptor.address), into);
-    copied(alloc, into)
-}
-
-/// A vector of its own with these bytes.
-pub(crate) fn copied(alloc: Global, bytes: &[u8]) -> Result<Bytes, Memory>
-    ensures { IfOk result (λ copy. copy ≡ bytes.now) }
-{
-    let mut copy = Bytes::new(alloc);
-    copy.push_slice(bytes)?;
-    Ok(copy)
+    let frame = &mut room[..usize::from(descriptor.length)];
+    mem.dev_read(short(mem, descriptor.address), frame);
+    history.sent(frame);
 }
 
 /// Says in the transmit descriptor that its frame was sent.

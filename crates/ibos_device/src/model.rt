@@ -1,19 +1,21 @@
 //! A model of the device.
-ghost use Rattle.std.specs.Prelude.{◌≡◌, List, ℕ, [], ◌∷◌, reverse, refl, IfOk, IsTrue};
+ghost use Rattle.std.specs.Prelude.{◌≡◌, List, ℕ, [], ◌∷◌, refl, IfOk, IsTrue};
 ghost use Rattle.ibos_nic.specs.declared.reg.Reg.{Reg};
 ghost use Rattle.ibos_nic.specs.declared.log.LogEntry.TheVariants.{In, Out};
-ghost use Rattle.ibos_nic.specs.Registers.{can_receive, receive_head, reset};
-ghost use Rattle.ibos_nic.specs.Device.{IsReceived, MayReceive, OnHeard, OnUnheard, after_arrive, verdict_of};
+ghost use Rattle.std.specs.Result.{IsOk};
+ghost use Rattle.ibos_nic.specs.Registers.{can_receive, can_transmit, receive_head, reset, transmit_head};
+ghost use Rattle.ibos_nic.specs.Device.{IsReceived, IsTransmitted, MayReceive, MayTransmit, OnHeard, OnSent, OnUnheard, OnUnsent, after_arrive, after_transmit, frame_at, verdict_of};
 ghost use Rattle.ibos_device.specs.Cards.{regs_of};
 
 use crate::card::Card;
 use ibos_kinds::{Memory, Verdict};
-use ibos_nic::{LogEntry, Nic, Reg};
+use ibos_nic::{Nic, Reg};
 use ibos_pool::Mem;
 use std::alloc::Global;
 use std::marker::Model;
 
-/// A model of the Intel 8254x. What it writes for a frame is that frame.
+/// A model of the Intel 8254x. What it writes for a frame is that frame. Its log is there for contracts alone, so it takes
+/// no memory, however much comes and goes.
 #[derive(Drop)]
 pub struct Model8254x {
     card: Card,
@@ -32,22 +34,19 @@ impl Model for Model8254x {
 impl Model8254x {
     ghost use Rattle.ibos_device.specs.Cards.{AreFaithful};
 
-    /// The device at reset, whose log is empty. Takes no memory.
-    pub fn new(alloc: Global) -> Model8254x
+    /// The device at reset, whose log is empty.
+    pub fn new() -> Model8254x
         ensures registers { (r : Reg) → regs_of result r ≡ reset r }
         ensures log { result.log ≡ [] }
     {
-        Model8254x {
-            card: Card::new(alloc),
-        }
+        Model8254x { card: Card::new() }
     }
 
-    /// What came in and what went out, the oldest first.
-    pub fn log(&self) -> &[LogEntry]
-        ensures entries { self.now.log ≡ reverse result.now }
-        ensures faithful { AreFaithful self.now.log }
+    /// What was written for each frame that came in is that frame.
+    pub fn is_faithful(&self)
+        ensures { AreFaithful self.now.log }
     {
-        self.card.entries()
+        let _card = &self.card;
     }
 }
 
@@ -72,7 +71,7 @@ impl Nic for Model8254x {
         self.card.write(reg, value);
     }
 
-    fn arrive(&mut self, alloc: Global, frame: &[u8], mem: &mut Mem) -> Result<Verdict, Memory>
+    fn arrive(&mut self, _alloc: Global, frame: &[u8], mem: &mut Mem) -> Result<Verdict, Memory>
         requires { IsTrue (can_receive (regs_of self.old)) → MayReceive mem.old (receive_head (regs_of self.old)) }
         ensures verdict { IfOk result (λ verdict. verdict ≡ verdict_of (regs_of self.old) frame.now) }
         ensures registers { (r : Reg) → regs_of self.new r ≡ after_arrive result (regs_of self.old) r }
@@ -83,11 +82,25 @@ impl Nic for Model8254x {
 
         // What was written is the frame that came.
         ensures same { OnHeard result (self.new.log ≡ In frame.now frame.now ∷ self.old.log) }
+
+        // It takes no memory.
+        ensures always { IsOk result }
     {
-        self.card.arrive(alloc, frame, frame, mem)
+        Ok(self.card.arrive(frame, frame, mem))
     }
 
-    fn transmit(&mut self, alloc: Global, mem: &mut Mem) -> Result<bool, Memory> {
-        self.card.transmit(alloc, mem)
+    fn transmit(&mut self, _alloc: Global, mem: &mut Mem) -> Result<bool, Memory>
+        requires { IsTrue (can_transmit (regs_of self.old)) → MayTransmit mem.old (transmit_head (regs_of self.old)) }
+        ensures sent { IfOk result (λ sent. sent ≡ can_transmit (regs_of self.old)) }
+        ensures registers { (r : Reg) → regs_of self.new r ≡ after_transmit result (regs_of self.old) r }
+        ensures sent_log { OnSent result (self.new.log ≡ Out (frame_at mem.old (transmit_head (regs_of self.old))) ∷ self.old.log) }
+        ensures sent_memory { OnSent result (IsTransmitted mem.old mem.new (transmit_head (regs_of self.old))) }
+        ensures unsent_log { OnUnsent result (self.new.log ≡ self.old.log) }
+        ensures unsent_memory { OnUnsent result (mem.new ≡ mem.old) }
+
+        // It takes no memory.
+        ensures always { IsOk result }
+    {
+        Ok(self.card.transmit(mem))
     }
 }

@@ -1,5 +1,5 @@
 //! A device that writes other bytes than those that came.
-ghost use Rattle.std.specs.Prelude.{◌≡◌, ◌≤◌, List, ℕ, [], ◌∷◌, length, reverse, refl, IfOk, IsTrue};
+ghost use Rattle.std.specs.Prelude.{◌≡◌, ◌≤◌, List, ℕ, [], ◌∷◌, length, refl, IfOk, IsTrue};
 ghost use Rattle.ibos_nic.specs.declared.reg.Reg.{Reg};
 ghost use Rattle.ibos_nic.specs.declared.log.LogEntry.TheVariants.{In, Out};
 ghost use Rattle.ibos_nic.specs.declared.limits.TheConstants.{MOST_FRAME};
@@ -9,7 +9,7 @@ ghost use Rattle.ibos_device.specs.Cards.{regs_of};
 
 use crate::card::Card;
 use ibos_kinds::{Bytes, Memory, Verdict};
-use ibos_nic::{LogEntry, Nic, Reg};
+use ibos_nic::{Nic, Reg};
 use ibos_pool::Mem;
 use std::alloc::Global;
 use std::marker::Model;
@@ -34,24 +34,17 @@ impl Model for Noisy {
 }
 
 impl Noisy {
-    /// The device at reset, whose log is empty, with the bytes that it writes. Takes no memory.
-    pub fn new(alloc: Global, bytes: Bytes) -> Noisy
+    /// The device at reset, whose log is empty, with the bytes that it writes.
+    pub fn new(bytes: Bytes) -> Noisy
         requires { length bytes ≤ MOST_FRAME }
         ensures registers { (r : Reg) → regs_of result.state r ≡ reset r }
         ensures log { result.state.log ≡ [] }
         ensures noise { result.noise ≡ bytes }
     {
         Noisy {
-            card: Card::new(alloc),
+            card: Card::new(),
             bytes,
         }
-    }
-
-    /// What came in and what went out, the oldest first.
-    pub fn log(&self) -> &[LogEntry]
-        ensures { self.now.state.log ≡ reverse result.now }
-    {
-        self.card.entries()
     }
 }
 
@@ -85,7 +78,7 @@ impl Nic for Noisy {
         self.card.write(reg, value);
     }
 
-    fn arrive(&mut self, alloc: Global, frame: &[u8], mem: &mut Mem) -> Result<Verdict, Memory>
+    fn arrive(&mut self, _alloc: Global, frame: &[u8], mem: &mut Mem) -> Result<Verdict, Memory>
         requires { IsTrue (can_receive (regs_of self.old.state)) → MayReceive mem.old (receive_head (regs_of self.old.state)) }
         ensures verdict { IfOk result (λ verdict. verdict ≡ verdict_of (regs_of self.old.state) frame.now) }
         ensures registers { (r : Reg) → regs_of self.new.state r ≡ after_arrive result (regs_of self.old.state) r }
@@ -98,10 +91,10 @@ impl Nic for Noisy {
         ensures other { OnHeard result (self.new.state.log ≡ In frame.now self.old.noise ∷ self.old.state.log) }
         ensures noise { self.new.noise ≡ self.old.noise }
     {
-        self.card.arrive(alloc, frame, self.bytes.as_slice(), mem)
+        Ok(self.card.arrive(frame, self.bytes.as_slice(), mem))
     }
 
-    fn transmit(&mut self, alloc: Global, mem: &mut Mem) -> Result<bool, Memory>
+    fn transmit(&mut self, _alloc: Global, mem: &mut Mem) -> Result<bool, Memory>
         requires { IsTrue (can_transmit (regs_of self.old.state)) → MayTransmit mem.old (transmit_head (regs_of self.old.state)) }
         ensures sent { IfOk result (λ sent. sent ≡ can_transmit (regs_of self.old.state)) }
         ensures registers { (r : Reg) → regs_of self.new.state r ≡ after_transmit result (regs_of self.old.state) r }
@@ -111,6 +104,6 @@ impl Nic for Noisy {
         ensures unsent_memory { OnUnsent result (mem.new ≡ mem.old) }
         ensures noise { self.new.noise ≡ self.old.noise }
     {
-        self.card.transmit(alloc, mem)
+        Ok(self.card.transmit(mem))
     }
 }
