@@ -3,7 +3,7 @@
 # largest memory. The time has to grow with the lines, and the memory with the files.
 set -eu
 here=$(cd "$(dirname "$0")/.." && pwd)
-"$here/ibos" run "$here/examples/first/hosts" "$here/examples/first/script" >/dev/null
+"$here/ibos" run "$here/examples/hosts" "$here/examples/first/script" >/dev/null
 program=$here/crates/ibos_cli/out/ibos_cli
 folder=$(mktemp -d)
 trap 'rm -rf "$folder"' EXIT
@@ -13,5 +13,5 @@ for lines in 250000 500000 1000000; do
         echo "user open 0 http://a.example/"
         awk -v pairs=$((lines / 2)) 'BEGIN { for (i = 0; i < pairs; i++) print "page 0.0 cookie set k=v\npage 0.0 cookie get" }'
     } >"$folder/script"
-    python3 "$here/bench/timed.py" "$program" "$here/examples/first/hosts" "$folder/script" "$lines" line
+    python3 "$here/bench/timed.py" "$program" "$here/examples/hosts" "$folder/script" "$lines" line
 done

@@ -3,7 +3,7 @@
 # table of 4,096. The time of an act must not grow with the number of acts.
 set -eu
 here=$(cd "$(dirname "$0")/.." && pwd)
-"$here/ibos" run "$here/examples/first/hosts" "$here/examples/first/script" >/dev/null
+"$here/ibos" run "$here/examples/hosts" "$here/examples/first/script" >/dev/null
 program=$here/crates/ibos_cli/out/ibos_cli
 folder=$(mktemp -d)
 trap 'rm -rf "$folder"' EXIT
