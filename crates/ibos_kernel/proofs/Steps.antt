@@ -279,7 +279,7 @@ step_holds J old new act outcome stands fits serves =
     let Q : TabTable → Type 0 = Shows (tabs H (entry act outcome ∷ J)) in
     let S : HostTable → Type 0 = λ T. Shows (tabs T (entry act outcome ∷ J)) new.tabs in
     record {
-      run = subst P (sym serves.hosts_are) (told ∙ row_stands J old act stands, stands.run);
+      run = subst P (sym serves.hosts_are) (record { outcome = told ∙ row_stands J old act stands; written = refl }, stands.run);
       shown = subst S (sym serves.hosts_are) (subst Q (sym serves.tabs_are) (tabs_stand J old act outcome stands fits told));
       active = active_stands J old act outcome stands told ∙ ap (λ (table : TabTable). table.active) (sym serves.tabs_are);
       jars = λ o. serves.jars_are o ∙ jars_stand J old act outcome stands told o ∙ ap (λ (T : HostTable). jar (sets_of T (entry act outcome ∷ J) o)) (sym serves.hosts_are);
@@ -293,7 +293,7 @@ step_told J old new act outcome stands serves = serves.told ∙ row-seen J old a
 -- what the act tells each instance is what its facts give
 pub step_carried : (J : Journal) (old new : Parts) (act : Act) (outcome : Outcome) → Holds J old → Serves old act outcome new
     → IsCarried old.hosts J (entry act outcome)
-step_carried J old new act outcome stands serves = carried old.hosts J (entry act outcome) (step_told J old new act outcome stands serves, stands.run)
+step_carried J old new act outcome stands serves = carried old.hosts J (entry act outcome) (record { outcome = step_told J old new act outcome stands serves; written = refl }, stands.run)
 
 -- ---- as the code says it
 

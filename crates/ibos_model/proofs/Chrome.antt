@@ -102,4 +102,4 @@ chrome_kept H J e r run other = by_ok (is_accepted e) refl
   where
     by_ok : (ok : Bool) → is_accepted e ≡ ok → chrome_of H (e ∷ J) r ≡ chrome_of H J r
     by_ok false is = ap (λ v. chrome_in v.tabs v.focus r) (unchanged H J e is)
-    by_ok true is = rw is (accepted_kept H J e.act r (tabs_sound H J run.1) (ap (λ (o : Outcome). is_ok o.head) (sym run.0) ∙ is) (rw is at other))
+    by_ok true is = rw is (accepted_kept H J e.act r (tabs_sound H J run.1) (ap (λ (o : Outcome). is_ok o.head) (sym run.0.outcome) ∙ is) (rw is at other))

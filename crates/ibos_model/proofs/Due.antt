@@ -131,7 +131,7 @@ no_tabs_sound : IsSound no_tabs
 no_tabs_sound = record { unborn = λ q h. refl; kept = λ q h. refl; lives = λ tab who h. cc; alone = λ q there. absurd (there refl); home = λ tab q h. cc }
 
 pub entry_due : (H : HostTable) (J : Journal) (e : Entry) → IsRun H (e ∷ J) → IsSound (tabs H J) → All (IsDue (Unit {0}) H) (tabs H J) (changes H (tabs H J) (focus_of J) (is_accepted e) e.act)
-entry_due H J e run sound = changes_due (Unit {0}) H J e.act (is_accepted e) (λ u. sound) (λ u. ap (λ (r : Outcome). is_ok r.head) (sym run.0))
+entry_due H J e run sound = changes_due (Unit {0}) H J e.act (is_accepted e) (λ u. sound) (λ u. ap (λ (r : Outcome). is_ok r.head) (sym run.0.outcome))
 
 pub tabs_sound : (H : HostTable) (J : Journal) → IsRun H J → IsSound (tabs H J)
 tabs_sound H J run = tabs_keep H (IsRun H) (IsDue (Unit {0}) H) IsSound no_tabs_sound (changed_sound H) (λ K e good. good.1) (entry_due H) J run

@@ -1,5 +1,5 @@
 -- The law of isolation, by one entry after another.
-use Rattle.std.proofs.Common.{◌≡◌, ℕ, List, [], ◌∷◌, refl, sym, ap, subst}
+use Rattle.std.proofs.Common.{◌≡◌, ℕ, List, ◌∷◌, refl, sym, ap, subst}
 use Rattle.ibos_kinds.specs.declared.names.Instance.{Instance}
 use Rattle.ibos_kinds.specs.declared.act.Act.{Act}
 use Rattle.ibos_kinds.specs.declared.act.Act.TheVariants.{Start, Switch, Close, Press, Click, Look, Go, Draw, CookieSet, CookieGet}
@@ -9,7 +9,7 @@ use Rattle.ibos_model.specs.Journal.{Entry, Journal, same}
 use Rattle.ibos_model.specs.Tabs.{tabs}
 use Rattle.ibos_model.specs.Jars.{sets_of}
 use Rattle.ibos_model.specs.Rows.{out}
-use Rattle.ibos_model.specs.Runs.{IsRun, run, run_from, entry_of}
+use Rattle.ibos_model.specs.Runs.{IsRun, run}
 use Rattle.ibos_model.specs.Facts.{Suits}
 use Rattle.ibos_model.specs.Laws.{IsIsolated, IsIsolatedIn, IsIsolatedOverTwo, IsCarriedAlways}
 use Rattle.ibos_model.proofs.Inductions.{Holds, holds, adds, same_told}
@@ -18,6 +18,7 @@ use Rattle.ibos_model.proofs.Due.{IsSound, tabs_sound}
 use Rattle.ibos_model.proofs.Agrees.{own_law, Agrees, entry}
 use Rattle.ibos_model.proofs.AgreeTabs.{start_agrees, switch_agrees, close_agrees, go_agrees}
 use Rattle.ibos_model.proofs.AgreeCookies.{set_agrees, get_agrees}
+use Rattle.ibos_model.proofs.GoingOn.{is_run}
 use Rattle.ibos_model.proofs.AgreeInput.{press_agrees, click_agrees, look_agrees, draw_agrees}
 
 -- one entry agrees, whatever the act
@@ -49,11 +50,7 @@ good_before H p o J e good = record { run = good.run.1; suits = suits_before H p
 good_agrees : (H : HostTable) (p : Instance) (o : List ℕ) (J : Journal) (e : Entry) → IsGood H p o (e ∷ J) → Agrees H p o J e
 good_agrees H p o J e good =
     let P : Entry → Type 0 = Agrees H p o J in
-    subst P (as_entry H J e good.run.0) (agrees H p o J e.act e.written (tabs_sound H J good.run.1) (suits_before H p o J e good.run good.suits))
-
-is_run_from : (H : HostTable) (J : Journal) (A : List Act) (W : List (List ℕ)) → IsRun H J → IsRun H (run_from H J A W)
-is_run_from H J [] W is = is
-is_run_from H J (a ∷ A) W is = is_run_from H (entry_of H J W a ∷ J) A _ (refl, is)
+    subst P (as_entry H J e good.run.0.outcome) (agrees H p o J e.act e.written (tabs_sound H J good.run.1) (suits_before H p o J e good.run good.suits))
 
 -- the law for the journal of a run
 own_holds : (H : HostTable) (p : Instance) (o : List ℕ) (J : Journal) → IsRun H J → Suits H p o J → Holds (own_law H p o) J
@@ -62,9 +59,6 @@ own_holds H p o J run suits = holds (own_law H p o) (IsGood H p o) (good_before 
 pub isolated_in : (H : HostTable) (J : Journal) → IsRun H J → IsIsolatedIn H J
 unfolding tabs sets_of
 isolated_in H J run p o suits = (own_holds H p o J run suits).told
-
-pub is_run : (H : HostTable) (A : List Act) (W : List (List ℕ)) → IsRun H (run H A W)
-is_run H A W = is_run_from H [] A W tt
 
 pub isolated : IsIsolated
 isolated H A W p o suits = isolated_in H (run H A W) (is_run H A W) p o suits

@@ -9,6 +9,7 @@ pub mod Agrees
 pub mod AgreeTabs
 pub mod AgreeCookies
 pub mod AgreeInput
+pub mod GoingOn
 pub mod Isolated
 pub mod Chrome
 pub mod Shown

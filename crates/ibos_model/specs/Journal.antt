@@ -1,9 +1,10 @@
 -- Journals: what was done, and what came of it. The host table of the run stands beside the journal.
-use Rattle.std.specs.Prelude.{ℕ, List, Bool, true, false}
+use Rattle.std.specs.Prelude.{ℕ, List, [], ◌∷◌, ◌++◌, Bool, true, false, if◌then◌else◌}
 pub use Rattle.ibos_kinds.specs.Parties.{same}
 use Rattle.ibos_kinds.specs.declared.act.Act.{Act}
 use Rattle.ibos_kinds.specs.declared.outcome.Head.{Head}
 use Rattle.ibos_kinds.specs.declared.outcome.Head.TheVariants.{Ok, Denied}
+use Rattle.ibos_kinds.specs.declared.outcome.Item.{Item}
 use Rattle.ibos_kinds.specs.declared.outcome.Outcome.{Outcome}
 
 -- an act, what came of it, and what the device wrote where a frame was heard
@@ -22,3 +23,38 @@ is_ok (Denied rule) = false
 
 abbrev pub is_accepted : Entry → Bool
 is_accepted e = is_ok e.outcome.head
+
+-- what an act has to do with the device's log: its frame was heard, one was sent, or nothing of these
+pub data Kind : Type 0 where
+  Hears : Kind
+  Sends : Kind
+  Nothing : Kind
+
+-- no item is a verdict of the device so far
+abbrev pub kind_in : List Item → Kind
+kind_in items = Nothing
+
+abbrev pub kind_of : Outcome → Kind
+kind_of outcome = kind_in outcome.items
+
+abbrev pub hears : Kind → Bool
+hears Hears = true
+hears other = false
+
+-- the frame of the act was heard
+abbrev pub is_heard : Outcome → Bool
+is_heard outcome = hears (kind_of outcome)
+
+-- one more of a list, where the frame was heard
+abbrev pub if_heard : {A : Type 0} → Outcome → A → List A
+if_heard outcome x = if is_heard outcome then x ∷ [] else []
+
+-- the acts, in order
+abbrev pub acts : Journal → List Act
+acts [] = []
+acts (e ∷ J) = acts J ++ e.act ∷ []
+
+-- what the device wrote for each frame heard, in order
+abbrev pub heard : Journal → List (List ℕ)
+heard [] = []
+heard (e ∷ J) = heard J ++ if_heard e.outcome e.written

@@ -5,13 +5,14 @@ use Rattle.ibos_kinds.specs.declared.act.Act.{Act}
 use Rattle.ibos_origin.specs.Hosts.{HostTable}
 use Rattle.ibos_origin.specs.Tables.{HasPlainNames}
 use Rattle.ibos_kinds.specs.declared.act.Act.TheVariants.{Go}
-use Rattle.ibos_model.specs.Journal.{Entry, Journal, is_accepted}
+use Rattle.ibos_model.specs.Journal.{Entry, Journal, acts, heard, is_accepted}
 use Rattle.ibos_kinds.specs.declared.cookies.Cookie.{Cookie}
 use Rattle.ibos_model.specs.Focus.{Focus, focus_of, is_active}
 use Rattle.ibos_model.specs.Tabs.{Tabs, tabs, origin_of, active_of}
 use Rattle.ibos_model.specs.Jars.{sets_of}
 use Rattle.ibos_model.specs.Screen.{chrome_of, cell_of, screen}
-use Rattle.ibos_model.specs.Runs.{IsRun, run}
+use Rattle.ibos_model.specs.Runs.{Follows, GoesOn, IsRun, run, run_from}
+use Rattle.ibos_model.specs.Text.{text_of}
 use Rattle.ibos_model.specs.Facts.{facts, Suits}
 use Rattle.ibos_model.specs.Delivered.{told_at, delivered}
 use Rattle.ibos_model.specs.Gives.{gives}
@@ -77,3 +78,21 @@ views H J = record { tabs = tabs H J; focus = focus_of J; sets = sets_of H J; ce
 -- A denied entry changes nothing.
 abbrev pub IsUnchanged : Type 0
 IsUnchanged = (H : HostTable) (J : Journal) (e : Entry) → is_accepted e ≡ false → views H (e ∷ J) ≡ views H J
+
+-- What acts make of a host table is a run, whatever the device writes.
+abbrev pub AreRuns : Type 0
+AreRuns = (H : HostTable) (A : List Act) (W : List (List ℕ)) → IsRun H (run H A W)
+
+-- Each run is that of its acts, and of what the device wrote for the frames heard.
+abbrev pub AreOfTheirActs : Type 0
+AreOfTheirActs = (H : HostTable) (J : Journal) → IsRun H J → J ≡ run H (acts J) (heard J)
+
+-- A journal from which a run goes on still does after the entry of the next act.
+abbrev pub DoGoOn : Type 0
+DoGoOn = (H : HostTable) (J : Journal) (e : Entry) (left all : List Act) → Follows H J e →
+    GoesOn H J (e.act ∷ left) all → GoesOn H (e ∷ J) left all
+
+-- The text of a journal is a front of that of each run from there.
+abbrev pub AreFronts : Type 0
+AreFronts = (H : HostTable) (J : Journal) (A : List Act) (W : List (List ℕ)) →
+    (more : List ℕ) × (text_of J ++ more ≡ text_of (run_from H J A W))

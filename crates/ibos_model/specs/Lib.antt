@@ -9,6 +9,6 @@ pub mod Runs
 pub mod Facts
 pub mod Delivered
 pub mod Gives
-pub mod Laws
 pub mod Text
+pub mod Laws
 pub mod Inputs

@@ -2,7 +2,7 @@
 //! run here: each function is a law, which its contract states.
 #![tactic(auto)]
 
-ghost use Rattle.ibos_model.specs.Laws.{IsIsolated, IsIsolatedOverTwo, IsCarriedAlways, IsChromeKept, IsOriginShown, IsUnchanged};
+ghost use Rattle.ibos_model.specs.Laws.{AreFronts, AreOfTheirActs, AreRuns, DoGoOn, IsIsolated, IsIsolatedOverTwo, IsCarriedAlways, IsChromeKept, IsOriginShown, IsUnchanged};
 
 /// In every run each instance is told what the facts that concern it give, whatever else happens.
 pub fn isolation()
@@ -34,4 +34,24 @@ pub fn origins_show_whole()
 /// A denied act changes nothing.
 pub fn denials_change_nothing()
     ensures { IsUnchanged }
+{}
+
+/// What acts make of a host table is a run, whatever the device writes.
+pub fn acts_make_runs()
+    ensures { AreRuns }
+{}
+
+/// Each run is that of its acts, and of what the device wrote for the frames heard.
+pub fn runs_are_of_their_acts()
+    ensures { AreOfTheirActs }
+{}
+
+/// A journal from which a run goes on, whatever will be heard, still does after the entry of the next act.
+pub fn runs_go_on()
+    ensures { DoGoOn }
+{}
+
+/// The text of a journal is a front of the text of each run from there.
+pub fn texts_are_fronts()
+    ensures { AreFronts }
 {}
