@@ -83,7 +83,7 @@ impl Jar {
         ensures ok { OnOk result (self.new ≡ put (record { name = name.now; value = value.now }) self.old) }
         ensures err { OnErr result (self.new ≡ self.old) }
     {
-        let copy = copy_of(alloc, value)?;
+        let copy = Bytes::from_slice(alloc, value)?;
         match self.values.get_mut(name) {
             Some(held) => {
                 self.bytes = self.bytes - held.len() + value.len();
@@ -125,14 +125,6 @@ impl Jar {
         }
         Ok(text)
     }
-}
-
-fn copy_of(alloc: Global, bytes: &[u8]) -> Result<Bytes, Memory>
-    ensures { IfOk result (λ copy. copy ≡ bytes.now) }
-{
-    let mut copy = Bytes::new(alloc);
-    copy.push_slice(bytes)?;
-    Ok(copy)
 }
 
 // Whether so many cookies, or so many bytes with those of a name and a value, pass a limit.

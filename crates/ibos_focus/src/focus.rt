@@ -6,16 +6,11 @@ ghost use Rattle.ibos_kinds.specs.Limits.{IsKey};
 ghost use Rattle.ibos_kinds.specs.Screens.{is_pixel};
 
 use arrayvec::ArrayVec;
-use ibos_kinds::{Key, Rule};
+use ibos_kinds::{CHROME_ROWS, COLUMNS, Key, Rule, SCREEN_ROWS};
 use std::marker::Model;
 
-const ENTRY_ROW: u32 = 2;
-
-const CHROME_ROWS: u32 = 3;
-
-const ROWS: u32 = 25;
-
-const COLUMNS: u32 = 80;
+// The last row of the chrome is the entry line.
+const ENTRY_ROW: u32 = CHROME_ROWS as u32 - 1;
 
 /// Where keys go: to the entry line, or to the content of the active instance.
 #[derive(Clone, Copy, Debug, PartialEq, Eq)]
@@ -118,7 +113,7 @@ impl Focus {
         ensures after { self.new ≡ after_click self.old row col active }
         ensures err { OnErr result (self.new ≡ self.old) }
     {
-        if row >= ROWS || col >= COLUMNS {
+        if row >= SCREEN_ROWS as u32 || col >= COLUMNS as u32 {
             return Err(Rule::U12);
         }
         if row < ENTRY_ROW {
@@ -133,7 +128,7 @@ impl Focus {
         }
         self.spot = Spot::Content;
         Ok(ClickDone::Content {
-            row: (row - CHROME_ROWS) as u8,
+            row: (row - CHROME_ROWS as u32) as u8,
             col: col as u8,
         })
     }

@@ -4,8 +4,8 @@ use Rattle.std.specs.Prelude.{nat_lt, Option, Some, None, unwrap_or, ifâ—Œthenâ—
 use Rattle.std.proofs.lemmas.Bool.Decides.{nat_tests}
 use Rattle.std.proofs.lemmas.List.{append-nil, length-append, length-replicate, length-take-le, length-drop, drop_at, drop_all, drop-take, take-take, drop-replicate, take-replicate, get_or-replicate, get_or-take, get_or-drop, get_or_append_left, get_or-append_right}
 use Rattle.std.proofs.lemmas.Slice.{take-put_mid_below, drop-put_mid, between-put_mid}
-use Rattle.ibos_kinds.specs.Screens.{space}
-use Rattle.ibos_frame.specs.Frames.{Frames, padded, shown_content, seen_at, pixel_in, chrome_at}
+use Rattle.ibos_kinds.specs.Screens.{space, padded}
+use Rattle.ibos_frame.specs.Frames.{Frames, shown_content, seen_at, pixel_in, chrome_at}
 use borrow.Rule.Slice.PartMut.{put_mid}
 
 -- a list whose end was written

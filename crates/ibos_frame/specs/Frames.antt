@@ -1,5 +1,5 @@
 -- The screen: three rows of chrome over the content of the instance that is shown.
-use Rattle.std.specs.Prelude.{ℕ, ◌+◌, ◌-◌, ◌*◌, List, ◌++◌, length, take, drop, replicate, Bool, nat_lt, slice_index, Option, Some, None, Result, Ok, Err, option_and_then, unwrap_or, is_some, if◌then◌else◌}
+use Rattle.std.specs.Prelude.{ℕ, ◌+◌, ◌-◌, ◌*◌, List, take, drop, replicate, Bool, nat_lt, slice_index, Option, Some, None, Result, Ok, Err, option_and_then, unwrap_or, is_some, if◌then◌else◌}
 use Rattle.std.specs.List.{slice_index_or}
 use Rattle.ibos_kinds.specs.declared.names.Instance.{Instance}
 use Rattle.ibos_kinds.specs.declared.rule.Rule.{Rule}
@@ -46,10 +46,6 @@ line_of pixels r = take columns (drop (columns * r) pixels)
 -- row r of 0 to 2
 abbrev pub chrome_at : Frames → ℕ → List ℕ
 chrome_at f r = line_of f.chrome r
-
--- a text in a row
-abbrev pub padded : List ℕ → List ℕ
-padded text = text ++ replicate (columns - length text) space
 
 -- row r of 0 to 24, column c of the screen: the chrome's rows, and then those of the content shown
 unfoldable pub seen_at : Frames → ℕ → ℕ → ℕ

@@ -2,13 +2,9 @@
 ghost use Rattle.std.specs.Prelude.{◌≡◌, ℕ, ◌+◌, ◌*◌, ◌<◌, ◌≤◌, length, replicate, slice_index, IfOk};
 ghost use Rattle.ibos_kinds.specs.Screens.{content_rows, columns, space, cell_after};
 
-use ibos_kinds::Memory;
+use ibos_kinds::{COLUMNS, CONTENT_ROWS, Memory};
 use std::alloc::Global;
 use std::marker::Model;
-
-pub(crate) const ROWS: usize = 22;
-
-pub(crate) const COLUMNS: usize = 80;
 
 pub(crate) const SPACE: u8 = b' ';
 
@@ -34,7 +30,7 @@ impl Content {
         ensures { IfOk result (λ content. content ≡ replicate 1760 space) }
     {
         Ok(Content {
-            pixels: spaces(alloc, ROWS * COLUMNS)?,
+            pixels: spaces(alloc, CONTENT_ROWS * COLUMNS)?,
         })
     }
 

@@ -1,16 +1,16 @@
 // The rows that are seen.
 ghost use Rattle.std.specs.Prelude.{◌≡◌, ◌≢◌, ℕ, ◌+◌, ◌*◌, ◌<◌, ◌≤◌, ◌++◌, length, take, drop, replicate, IfOk};
-ghost use Rattle.ibos_kinds.specs.Screens.{columns, space};
-ghost use Rattle.ibos_frame.specs.Frames.{padded, line_of};
+ghost use Rattle.ibos_kinds.specs.Screens.{columns, padded, space};
+ghost use Rattle.ibos_frame.specs.Frames.{line_of};
 
-use crate::content::{COLUMNS, SPACE, spaces};
-use ibos_kinds::Memory;
+use crate::content::{SPACE, spaces};
+use ibos_kinds::{CHROME_ROWS, COLUMNS, Memory, SCREEN_ROWS};
 use std::alloc::Global;
 use std::marker::Model;
 
-const SCREEN: usize = 25 * COLUMNS;
+const SCREEN: usize = SCREEN_ROWS * COLUMNS;
 
-const CHROME: usize = 3 * COLUMNS;
+const CHROME: usize = CHROME_ROWS * COLUMNS;
 
 /// Three rows of chrome over 22 of content, 80 pixels each, one after the other.
 #[derive(Drop)]

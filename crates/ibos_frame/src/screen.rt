@@ -2,14 +2,14 @@
 ghost use Rattle.std.specs.Prelude.{◌≡◌, ◌≢◌, ◌↔◌, ℕ, ◌+◌, ◌*◌, ◌<◌, ◌≤◌, ◌++◌, length, take, replicate, slice_index, true, false, None, Some, IfOk, OnOk, OnErr, IfSome, IsTrue};
 ghost use Rattle.std.specs.List.{list_all};
 ghost use Rattle.ibos_kinds.specs.declared.names.Instance.{Instance};
-ghost use Rattle.ibos_kinds.specs.Screens.{columns, content_rows, space, is_pixel, draw_breaks, cell_after};
+ghost use Rattle.ibos_kinds.specs.Screens.{columns, content_rows, space, is_pixel, draw_breaks, cell_after, padded};
 ghost use Rattle.ibos_kinds.specs.Screens as spec;
-ghost use Rattle.ibos_frame.specs.Frames.{answer_of, padded, body_of, content_in};
+ghost use Rattle.ibos_frame.specs.Frames.{answer_of, body_of, content_in};
 
-use crate::content::{COLUMNS, Content, ROWS};
+use crate::content::Content;
 use crate::contents::Contents;
 use crate::rows::Rows;
-use ibos_kinds::{Instance, Memory, Rule};
+use ibos_kinds::{COLUMNS, CONTENT_ROWS, Instance, Memory, Rule};
 use std::alloc::Global;
 use std::marker::Model;
 
@@ -170,7 +170,7 @@ fn is_region(row: u32, col: u32, height: u32, width: u32, pixels: &[u8]) -> bool
     let (height, width) = (height as u64, width as u64);
     height > 0
         && width > 0
-        && row as u64 + height <= ROWS as u64
+        && row as u64 + height <= CONTENT_ROWS as u64
         && col as u64 + width <= COLUMNS as u64
         && pixels.len() as u64 == height * width
 }

@@ -1,6 +1,6 @@
 -- The screen's cells, 25 rows of 80: three rows are the chrome's, and 22 the content of a page. What a draw makes of
 -- a content.
-use Rattle.std.specs.Prelude.{ℕ, ◌+◌, ◌-◌, ◌*◌, List, Bool, ◌==◌, ◌&&◌, not, nat_lt, nat_le, length, slice_index, Option, Some, None, if◌then◌else◌}
+use Rattle.std.specs.Prelude.{ℕ, ◌+◌, ◌-◌, ◌*◌, List, ◌++◌, replicate, Bool, ◌==◌, ◌&&◌, not, nat_lt, nat_le, length, slice_index, Option, Some, None, if◌then◌else◌}
 use Rattle.std.specs.List.{list_all}
 use Rattle.ibos_kinds.specs.declared.rule.Rule.{Rule}
 use Rattle.ibos_kinds.specs.declared.rule.Rule.TheVariants.{P3, P4}
@@ -26,6 +26,10 @@ is_pixel b = nat_le 0x20 b && nat_le b 0x7e
 
 abbrev pub space : ℕ
 space = 0x20
+
+-- a text as a row of the screen
+abbrev pub padded : List ℕ → List ℕ
+padded text = text ++ replicate (columns - length text) space
 
 -- the region has cells, all of the content, and a pixel for each
 unfoldable pub is_region : ℕ → ℕ → ℕ → ℕ → List ℕ → Bool

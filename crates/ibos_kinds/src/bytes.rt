@@ -1,10 +1,10 @@
-// Bytes that contracts see as a list, and want of memory.
+// Bytes that contracts see as a list, and the answer of a call that is out of memory.
 ghost use Rattle.std.specs.Prelude.{◌≡◌, ◌++◌, ◌==◌, [], length, IfOk, OnOk, OnErr};
 
 use std::alloc::{AllocError, AllocFailed, Global};
 use std::marker::Model;
 
-/// No memory was found. It says nothing else, and no other refusal is merged with it.
+/// Out of memory. Whatever else may go wrong has an answer of its own.
 #[derive(Clone, Copy, Debug, PartialEq, Eq)]
 pub struct Memory;
 
@@ -71,6 +71,15 @@ impl Bytes {
         }
     }
 
+    /// A vector of its own with these bytes.
+    pub fn from_slice(alloc: Global, bytes: &[u8]) -> Result<Bytes, Memory>
+        ensures { IfOk result (λ made. made ≡ bytes.now) }
+    {
+        let mut made = Bytes::new(alloc);
+        made.push_slice(bytes)?;
+        Ok(made)
+    }
+
     /// The bytes, lent.
     pub fn as_slice(&self) -> &[u8]
         ensures { result.now ≡ self.now }
@@ -120,8 +129,7 @@ impl Bytes {
     pub fn copy(&self, alloc: Global) -> Result<Bytes, Memory>
         ensures { IfOk result (λ copy. copy ≡ self.now) }
     {
-        let mut copy = Bytes::new(alloc);
-        copy.push_slice(self.as_slice())?;
+        let copy = Bytes::from_slice(alloc, self.as_slice())?;
         Ok(copy)
     }
 }

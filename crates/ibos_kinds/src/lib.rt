@@ -11,6 +11,7 @@ mod outcome;
 mod outside;
 mod party;
 mod rule;
+mod screens;
 mod sums;
 
 pub use act::Act;
@@ -22,6 +23,7 @@ pub use outcome::{Head, Item, Items, Outcome};
 pub use outside::{Cabinet, Failed, Sink};
 pub use party::{Party, actor, addressee};
 pub use rule::Rule;
+pub use screens::{CHROME_ROWS, COLUMNS, CONTENT_ROWS, SCREEN_ROWS};
 pub use sums::{sum_words, sum16};
 
 #[cfg(test)]

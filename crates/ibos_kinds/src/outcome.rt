@@ -76,7 +76,7 @@ impl Outcome {
         }
     }
 
-    /// Appends an item, or drops it where memory is wanting.
+    /// Appends an item, or drops it where there is no memory for it.
     pub fn push(&mut self, item: Item) -> Result<(), Memory>
         ensures head { self.new.head ≡ self.old.head }
         ensures ok { OnOk result (self.new.items ≡ self.old.items ++ item ∷ []) }

@@ -3,16 +3,10 @@ use std::alloc::Global;
 use std::process::Abort;
 use std::test::Fail;
 
-fn bytes(alloc: Global, text: &[u8]) -> Result<Bytes, Memory> {
-    let mut bytes = Bytes::new(alloc);
-    bytes.push_slice(text)?;
-    Ok(bytes)
-}
-
 #[test]
 fn bytes_items_and_rules_are_what_they_say(rt: HostRuntime) -> Result<(), Fail> {
     let alloc = rt.alloc();
-    let mut text = bytes(alloc, b"a=")?;
+    let mut text = Bytes::from_slice(alloc, b"a=")?;
     text.reserve(10)?;
     text.push_slice(b"b")?;
     let copy = text.copy(alloc)?;
@@ -29,6 +23,21 @@ fn bytes_items_and_rules_are_what_they_say(rt: HostRuntime) -> Result<(), Fail> 
     outcome.clear();
     assert_eq!(rt; outcome.head, Head::Ok);
     assert!(rt; outcome.items.as_slice().is_empty());
+
+    let url = Bytes::new(alloc);
+    for (act, party) in [
+        (Act::Look, Party::User),
+        (Act::Go { who, url }, Party::Page(who)),
+    ] {
+        assert!(rt; actor(&act) == party);
+    }
+    let text = Bytes::new(alloc);
+    for (item, party) in [
+        (Item::KeyTo { who, byte: 0x08 }, Party::Page(who)),
+        (Item::RowIs { row: 0, text }, Party::User),
+    ] {
+        assert!(rt; addressee(&item) == party);
+    }
 
     assert_eq!(rt; Rule::F14.code(), "F14");
     assert_eq!(rt; Rule::F14.name(), "InboxFull");
@@ -67,10 +76,16 @@ fn read(rt: &impl Abort, cabinet: &mut MemCabinet, name: &Bytes, wanted: &[Resul
 #[test]
 fn a_cabinet_in_memory_fails_where_it_is_told_to(rt: HostRuntime) -> Result<(), Fail> {
     let alloc = rt.alloc();
-    let name = bytes(alloc, b"f")?;
+    let name = Bytes::from_slice(alloc, b"f")?;
     let mut cabinet = MemCabinet::new(alloc);
-    cabinet.put(bytes(alloc, b"f")?, bytes(alloc, b"old")?)?;
-    cabinet.put(bytes(alloc, b"f")?, bytes(alloc, b"data")?)?;
+    cabinet.put(
+        Bytes::from_slice(alloc, b"f")?,
+        Bytes::from_slice(alloc, b"old")?,
+    )?;
+    cabinet.put(
+        Bytes::from_slice(alloc, b"f")?,
+        Bytes::from_slice(alloc, b"data")?,
+    )?;
     cabinet.piece(2);
     cabinet.fail(1)?;
     read(
@@ -82,7 +97,7 @@ fn a_cabinet_in_memory_fails_where_it_is_told_to(rt: HostRuntime) -> Result<(), 
     read(
         &rt,
         &mut cabinet,
-        &bytes(alloc, b"g")?,
+        &Bytes::from_slice(alloc, b"g")?,
         &[Err(Failed::Failed)],
     );
     Ok(())

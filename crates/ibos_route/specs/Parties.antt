@@ -3,7 +3,7 @@ use Rattle.std.specs.Prelude.{Option, None}
 use Rattle.ibos_kinds.specs.declared.rule.Rule.{Rule}
 use Rattle.ibos_kinds.specs.declared.act.Act.{Act}
 use Rattle.ibos_kinds.specs.declared.party.Party.{Party}
-use Rattle.ibos_kinds.specs.declared.party.Party.TheVariants.{Page, Driver, Store, User, Wire, Log}
+use Rattle.ibos_kinds.specs.declared.party.Party.TheVariants.{Page}
 use Rattle.ibos_kinds.specs.Parties.{actor}
 use Rattle.ibos_page.specs.Tabs.{TabTable, admission}
 

@@ -1,7 +1,7 @@
-//! Who may act.
+//! Who may act, and who is told.
 #![tactic(auto)]
 
 mod party;
 
-pub use party::admit;
-
+pub use ibos_kinds::Party;
+pub use party::{admit, told};

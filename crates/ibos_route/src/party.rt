@@ -1,9 +1,10 @@
-// Who may act.
+// Who may act, and who is told.
 ghost use Rattle.std.specs.Prelude.{◌≡◌};
+ghost use Rattle.ibos_kinds.specs.Parties as kinds;
 ghost use Rattle.ibos_page.specs.Tabs.{admitted_by};
 ghost use Rattle.ibos_route.specs.Parties.{admission_of};
 
-use ibos_kinds::{Act, Party, Rule, actor};
+use ibos_kinds::{Act, Item, Party, Rule, actor, addressee};
 use ibos_page::Tabs;
 
 /// Whether an act's actor may act: an instance only while it lives, with P1 where it never started and
@@ -15,4 +16,11 @@ pub fn admit(tabs: &Tabs, act: &Act) -> Result<(), Rule>
         Party::Page(who) => tabs.live(who),
         Party::Driver | Party::Store | Party::User | Party::Wire | Party::Log => Ok(()),
     }
+}
+
+/// The party that an item is addressed to.
+pub fn told(item: &Item) -> Party
+    ensures { result ≡ kinds.addressee item.now }
+{
+    addressee(item)
 }
