@@ -1,9 +1,9 @@
 -- The chrome's rows, written one after the other.
 use Rattle.std.proofs.Common.{◌≡◌, ◌≢◌, ℕ, zero, suc, ◌<◌, List, refl, sym, ◌∙◌, ap, subst, arith}
+use Rattle.ibos_kinds.specs.Screens.{padded}
 use Rattle.ibos_page.specs.Tabs.{TabTable}
 use Rattle.ibos_focus.specs.Focused.{Focused}
 use Rattle.ibos_frame.specs.Frames.{Frames, chrome_at}
-use Rattle.ibos_model.specs.Screen.{padded}
 use Rattle.ibos_kernel.specs.Tables.{chrome_by}
 
 pub rows_composed : (t : TabTable) (focus : Focused) (one two three : Frames) (a b d : List ℕ)

@@ -13,10 +13,16 @@ use Rattle.ibos_page.specs.declared.tabs.Moved.{Moved}
 use Rattle.ibos_page.specs.declared.tabs.Moved.TheVariants.{Same, New}
 use Rattle.ibos_frame.specs.Frames.{Frames, content_of, content_at, is_open}
 use Rattle.ibos_model.specs.Journal.{same}
-use Rattle.ibos_model.proofs.Folds.{same-true, same-refl}
 use Rattle.ibos_kernel.specs.Tables.{IsBeside, Follows, is_live}
 use Rattle.ibos_kernel.proofs.Shown.{seat-with, page_there}
 use Rattle.ibos_kernel.proofs.Displayed.{active_within}
+
+-- the test tells when two instances are one
+same-true : (p q : Instance) → same p q ≡ true → p ≡ q
+same-true p q h = grind (arith, nat_tests)
+
+same-refl : (p : Instance) → same p p ≡ true
+same-refl p = grind (arith, nat_tests)
 
 -- a tab that may start an instance has none that lives, and starts its next
 started_is : (t : TabTable) (tab : ℕ) (who : Instance) → start_in t tab ≡ Ok who → ((seat_at t tab).page ≡ None) × (who ≡ next_at t tab)

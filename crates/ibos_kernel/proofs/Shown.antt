@@ -2,11 +2,11 @@
 use Rattle.std.proofs.Common.{◌≡◌, ◌≢◌, ℕ, ◌+◌, ◌-◌, ◌<◌, ◌≤◌, Bool, true, false, List, length, Option, Some, None, refl, sym, ◌∙◌, ap, subst, arith, get_or, length-set}
 use Rattle.std.specs.Prelude.{option_map, unwrap_or, slice_set, bytes_eq, nat_lt, is_some, ◌&&◌, ◌==◌, if◌then◌else◌}
 use Rattle.std.proofs.lemmas.Bool.Decides.{nat_tests}
+use Rattle.std.proofs.lemmas.List.{get_or-set_same, get_or-set_other}
 use Rattle.ibos_kinds.specs.declared.names.Instance.{Instance}
 use Rattle.ibos_origin.specs.Pages.{Page}
 use Rattle.ibos_page.specs.Seats.{Seat}
 use Rattle.ibos_page.specs.Tabs.{TabTable, seat_at, live_at, live_in, is_live_in, empty_seat, opened, moved, closed, with_seat, origin_with}
-use Rattle.ibos_page.proofs.Seats.{seat-set}
 use Rattle.ibos_model.specs.Journal.{same}
 use Rattle.ibos_model.specs.Tabs.{Tabs, Change, Opens, Moves, Ends, Life, Unborn, Alive, Gone, changed, no_tabs, next_in, life_in, life_with, origin_in}
 use Rattle.ibos_kernel.specs.Tables.{origin_at, url_with}
@@ -30,7 +30,11 @@ none_shown t room empty = record {
 
 -- the seat of a tab after one seat is written
 pub seat-with : (t : TabTable) (i tab : ℕ) (seat : Seat) → length t.seats ≡ 64 → i < 64 → seat_at (with_seat t i seat) tab ≡ (if tab == i then seat else seat_at t tab)
-seat-with t i tab seat room within = seat-set t.seats i tab seat (omega (arith, room))
+seat-with t i tab seat room within = by_test (tab == i) refl
+  where
+    by_test : (here : Bool) → (tab == i) ≡ here → get_or (slice_set t.seats i seat) tab empty_seat ≡ (if here then seat else get_or t.seats tab empty_seat)
+    by_test true here = let this : tab ≡ i = grind (arith, nat_tests) in rw this (get_or-set_same t.seats i seat empty_seat (omega (arith, room)))
+    by_test false other = let differs : tab ≢ i = λ e. grind (arith, nat_tests, e) in get_or-set_other t.seats i tab seat empty_seat differs
 
 -- an instance of another tab is another
 other_tab : (who p : Instance) → (p.tab == who.tab) ≡ false → same who p ≡ false

@@ -39,9 +39,7 @@ use Rattle.ibos_model.specs.Focus.{active_by, without as spec_without}
 use Rattle.ibos_model.specs.Jars.{sets_by}
 use Rattle.ibos_model.specs.Tabs.{changed_by, changes, opening, leave, entering, end, if_ok}
 use Rattle.ibos_model.specs.Rows.{open_row, leave_row, page_key_row}
-use Rattle.ibos_model.specs.Laws.{IsCarried}
-use Rattle.ibos_model.proofs.JarSteps.{jar-set}
-use Rattle.ibos_model.proofs.Isolated.{carried}
+use Rattle.ibos_model.specs.Laws.{AreSetsPut, IsCarried, IsCarriedAlways}
 use Rattle.ibos_kernel.proofs.Shown.{seat-with}
 use Rattle.ibos_kernel.proofs.Rows.{row_seen, row-seen, row_stands, lives_if, enter_seen, active_same, active_lives, seen_screen}
 use Rattle.ibos_kernel.proofs.Displayed.{step_displays, active_within, start_page, let_in_ok}
@@ -245,13 +243,13 @@ active_stands J t (CookieSet side who text) outcome stands is = stands.active
 active_stands J t (CookieGet side who) outcome stands is = stands.active
 
 -- the jar of an origin after an act
-jars_stand : (J : Journal) (t : Parts) (act : Act) (outcome : Outcome) → Holds J t → outcome ≡ row_seen t act → (o : List ℕ)
+jars_stand : AreSetsPut → (J : Journal) (t : Parts) (act : Act) (outcome : Outcome) → Holds J t → outcome ≡ row_seen t act → (o : List ℕ)
     → jar_after t (is_ok outcome.head) act o ≡ jar (sets_of t.hosts (entry act outcome ∷ J) o)
 unfolding sets_of
-jars_stand J t (CookieSet side who text) outcome stands is o = set (is_ok outcome.head) (ok_of outcome _ is (is_ok outcome.head) refl)
+jars_stand law J t (CookieSet side who text) outcome stands is o = set (is_ok outcome.head) (ok_of outcome _ is (is_ok outcome.head) refl)
   where
     one_set : (same : Bool) → (if same then put (cookie_in text) (jar_of t.jars o) else jar_of t.jars o) ≡ jar (with_set same text (sets_of t.hosts J o))
-    one_set true = ap (put (cookie_in text)) (stands.jars o) ∙ sym (jar-set (cookie_in text) (sets_of t.hosts J o))
+    one_set true = ap (put (cookie_in text)) (stands.jars o) ∙ sym (law (cookie_in text) (sets_of t.hosts J o))
     one_set false = stands.jars o
 
     set : (ok : Bool) → (ok ≡ true → is_ok (let_in (admission t.tabs who) (answer (set_breaks text (jar_of t.jars (origin_at t.tabs who))))).head ≡ true)
@@ -260,19 +258,19 @@ jars_stand J t (CookieSet side who text) outcome stands is o = set (is_ok outcom
     set true row =
         let admitted = let_in_ok (admission t.tabs who) _ (row refl) in
         rw (stands.shown.origin who (lives_if t.tabs who admitted.0)) (one_set (bytes_eq (origin_at t.tabs who) o))
-jars_stand J t (Start tab url) outcome stands is o = stands.jars o
-jars_stand J t (Switch tab) outcome stands is o = stands.jars o
-jars_stand J t (Close tab) outcome stands is o = stands.jars o
-jars_stand J t (Press key) outcome stands is o = stands.jars o
-jars_stand J t (Click r c) outcome stands is o = stands.jars o
-jars_stand J t Look outcome stands is o = stands.jars o
-jars_stand J t (Draw who r c height width pixels) outcome stands is o = stands.jars o
-jars_stand J t (Go who url) outcome stands is o = stands.jars o
-jars_stand J t (CookieGet side who) outcome stands is o = stands.jars o
+jars_stand law J t (Start tab url) outcome stands is o = stands.jars o
+jars_stand law J t (Switch tab) outcome stands is o = stands.jars o
+jars_stand law J t (Close tab) outcome stands is o = stands.jars o
+jars_stand law J t (Press key) outcome stands is o = stands.jars o
+jars_stand law J t (Click r c) outcome stands is o = stands.jars o
+jars_stand law J t Look outcome stands is o = stands.jars o
+jars_stand law J t (Draw who r c height width pixels) outcome stands is o = stands.jars o
+jars_stand law J t (Go who url) outcome stands is o = stands.jars o
+jars_stand law J t (CookieGet side who) outcome stands is o = stands.jars o
 
 -- an act that the parts serve
-pub step_holds : (J : Journal) (old new : Parts) (act : Act) (outcome : Outcome) → Holds J old → Fits act → Serves old act outcome new → Holds (entry act outcome ∷ J) new
-step_holds J old new act outcome stands fits serves =
+pub step_holds : AreSetsPut → (J : Journal) (old new : Parts) (act : Act) (outcome : Outcome) → Holds J old → Fits act → Serves old act outcome new → Holds (entry act outcome ∷ J) new
+step_holds law J old new act outcome stands fits serves =
     let told : outcome ≡ row_seen old act = serves.told ∙ row-seen J old act stands in
     let H : HostTable = old.hosts in
     let P : HostTable → Type 0 = λ T. IsRun T (entry act outcome ∷ J) in
@@ -282,7 +280,7 @@ step_holds J old new act outcome stands fits serves =
       run = subst P (sym serves.hosts_are) (record { outcome = told ∙ row_stands J old act stands; written = refl }, stands.run);
       shown = subst S (sym serves.hosts_are) (subst Q (sym serves.tabs_are) (tabs_stand J old act outcome stands fits told));
       active = active_stands J old act outcome stands told ∙ ap (λ (table : TabTable). table.active) (sym serves.tabs_are);
-      jars = λ o. serves.jars_are o ∙ jars_stand J old act outcome stands told o ∙ ap (λ (T : HostTable). jar (sets_of T (entry act outcome ∷ J) o)) (sym serves.hosts_are);
+      jars = λ o. serves.jars_are o ∙ jars_stand law J old act outcome stands told o ∙ ap (λ (T : HostTable). jar (sets_of T (entry act outcome ∷ J) o)) (sym serves.hosts_are);
       displays = step_displays J old new act outcome stands fits serves told;
     }
 
@@ -291,9 +289,9 @@ pub step_told : (J : Journal) (old new : Parts) (act : Act) (outcome : Outcome) 
 step_told J old new act outcome stands serves = serves.told ∙ row-seen J old act stands ∙ row_stands J old act stands
 
 -- what the act tells each instance is what its facts give
-pub step_carried : (J : Journal) (old new : Parts) (act : Act) (outcome : Outcome) → Holds J old → Serves old act outcome new
+step_carried : IsCarriedAlways → (J : Journal) (old new : Parts) (act : Act) (outcome : Outcome) → Holds J old → Serves old act outcome new
     → IsCarried old.hosts J (entry act outcome)
-step_carried J old new act outcome stands serves = carried old.hosts J (entry act outcome) (record { outcome = step_told J old new act outcome stands serves; written = refl }, stands.run)
+step_carried law J old new act outcome stands serves = law old.hosts J (entry act outcome) (record { outcome = step_told J old new act outcome stands serves; written = refl }, stands.run)
 
 -- ---- as the code says it
 
@@ -304,22 +302,28 @@ view_of parts acts usable = record { hosts = parts.hosts; tabs = parts.tabs; jar
 held : (J : Journal) (t : Tables) (parts : Parts) (acts : ℕ) (usable : Bool) → view_of parts acts usable ≡ t → Stands J t → Holds J parts
 held J t parts acts usable view stands = let P : Tables → Type 0 = Stands J in (subst P (sym view) stands).parts
 
-pub step_stands : (J : Journal) (t : Tables) (old new : Parts) (acts : ℕ) (usable : Bool) (act : Act) (outcome : Outcome) → view_of old acts usable ≡ t
+pub step_stands : AreSetsPut → (J : Journal) (t : Tables) (old new : Parts) (acts : ℕ) (usable : Bool) (act : Act) (outcome : Outcome) → view_of old acts usable ≡ t
     → Stands J t → Fits act → Serves old act outcome new → Stands (entry act outcome ∷ J) (view_of new (acts + 1) usable)
-step_stands J t old new acts usable act outcome view stands fits serves =
+step_stands law J t old new acts usable act outcome view stands fits serves =
     let counted : acts ≡ t.acts = ap (λ (k : Tables). k.acts) view in
-    record { parts = step_holds J old new act outcome (held J t old acts usable view stands) fits serves; acts = omega (arith, stands.acts, counted) }
+    record { parts = step_holds law J old new act outcome (held J t old acts usable view stands) fits serves; acts = omega (arith, stands.acts, counted) }
 
-pub step_carries : (J : Journal) (t : Tables) (old new : Parts) (acts : ℕ) (usable : Bool) (act : Act) (outcome : Outcome) → view_of old acts usable ≡ t
+pub step_carries : IsCarriedAlways → (J : Journal) (t : Tables) (old new : Parts) (acts : ℕ) (usable : Bool) (act : Act) (outcome : Outcome) → view_of old acts usable ≡ t
     → Stands J t → Serves old act outcome new → IsCarried t.hosts J (entry act outcome)
-step_carries J t old new acts usable act outcome view stands serves =
+step_carries law J t old new acts usable act outcome view stands serves =
     let P : HostTable → Type 0 = λ H. IsCarried H J (entry act outcome) in
-    subst P (ap (λ (k : Tables). k.hosts) view) (step_carried J old new act outcome (held J t old acts usable view stands) serves)
+    subst P (ap (λ (k : Tables). k.hosts) view) (step_carried law J old new act outcome (held J t old acts usable view stands) serves)
 
 pub step_tells : (J : Journal) (t : Tables) (old new : Parts) (acts : ℕ) (usable : Bool) (act : Act) (outcome : Outcome) → view_of old acts usable ≡ t
     → Stands J t → Serves old act outcome new → outcome ≡ out t.hosts J act
 step_tells J t old new acts usable act outcome view stands serves =
     step_told J old new act outcome (held J t old acts usable view stands) serves ∙ ap (λ (k : Tables). out k.hosts J act) view
+
+-- what is denied changes nothing but the count of acts
+pub step_denied : (t : Tables) (old new : Parts) (acts : ℕ) (usable : Bool) → view_of old acts usable ≡ t → new ≡ old
+    → view_of new (acts + 1) usable ≡ record t { acts = t.acts + 1 }
+step_denied t old new acts usable view same =
+    ap (λ (parts : Parts). view_of parts (acts + 1) usable) same ∙ ap (λ (k : Tables). record k { acts = k.acts + 1 }) view
 
 pub pixels_seen : (J : Journal) (t : Tables) (parts : Parts) (acts : ℕ) (usable : Bool) → view_of parts acts usable ≡ t → Stands J t
     → (r c : ℕ) → r < 25 → c < 80 → seen_at parts.frames r c ≡ screen t.hosts J r c

@@ -12,7 +12,7 @@ use Rattle.ibos_kinds.specs.declared.rule.Rule.TheVariants.{U2, U10}
 use Rattle.ibos_kinds.specs.declared.names.Key.{Key}
 use Rattle.ibos_kinds.specs.declared.names.Key.TheVariants.{Enter}
 use Rattle.ibos_kinds.specs.Keyboard.{key_breaks}
-use Rattle.ibos_kinds.specs.Screens.{space}
+use Rattle.ibos_kinds.specs.Screens.{space, padded}
 use Rattle.ibos_page.specs.declared.tabs.Moved.{Moved}
 use Rattle.ibos_page.specs.declared.tabs.Moved.TheVariants.{Same, New}
 use Rattle.ibos_origin.specs.Hosts.{HostTable}
@@ -25,7 +25,7 @@ use Rattle.ibos_focus.specs.declared.focus.Spot.TheVariants.{Entry, Content}
 use Rattle.ibos_cookie.specs.Jars.{OriginJar, jar_of}
 use Rattle.ibos_model.specs.Journal.{is_ok}
 use Rattle.ibos_model.specs.Focus.{at_entry_by, entry_by}
-use Rattle.ibos_model.specs.Screen.{cell_by, state_text, bar_text, entry_text, padded, seen_row}
+use Rattle.ibos_model.specs.Screen.{cell_by, state_text, bar_text, entry_text, seen_row}
 use Rattle.ibos_model.specs.Rows.{accepted, denied, answer, open_row, close_row, page_key_row, click_row, look_row, draw_row}
 
 -- what acts read and change
@@ -44,7 +44,7 @@ pub record Tables : Type 0 where
   pub focus : Focused
   -- how many acts there have been
   pub acts : ℕ
-  -- no want of memory has ended the kernel
+  -- the kernel never ran out of memory
   pub usable : Bool
 
 abbrev pub parts_of : Tables → Parts
@@ -235,6 +235,7 @@ pub record Makes (old : Parts) (act : Act) (outcome : Outcome) (new : Parts) : T
   pub cells_are : (q : Instance) (r c : ℕ) → r < 22 → c < 80 → is_live new.tabs q ≡ true
       → content_at new.frames q r c ≡ cell_after old (is_ok outcome.head) act q r c
   pub leaves : composes act ≡ false → Leaves old new
+  pub denied : is_ok outcome.head ≡ false → new ≡ old
 
 -- the same, with the screen composed
 pub record Serves (old : Parts) (act : Act) (outcome : Outcome) (new : Parts) : Type 0 where
@@ -246,3 +247,4 @@ pub record Serves (old : Parts) (act : Act) (outcome : Outcome) (new : Parts) : 
   pub cells_are : (q : Instance) (r c : ℕ) → r < 22 → c < 80 → is_live new.tabs q ≡ true
       → content_at new.frames q r c ≡ cell_after old (is_ok outcome.head) act q r c
   pub tied : IsTied new.tabs new.frames new.focus
+  pub denied : is_ok outcome.head ≡ false → new ≡ old

@@ -7,11 +7,8 @@ ghost use Rattle.ibos_kernel.specs.Tables.{is_entry};
 
 use arrayvec::ArrayVec;
 use ibos_focus::Spot;
-use ibos_kinds::Instance;
+use ibos_kinds::{COLUMNS, Instance};
 use itoa::Buffer;
-
-/// A row of the screen has so many cells.
-const COLUMNS: usize = 80;
 
 /// A row's text.
 pub type Row = ArrayVec<u8, 80>;

@@ -1,5 +1,5 @@
 // Acts on cookies.
-ghost use Rattle.std.specs.Prelude.{◌≡◌, [], ◌&&◌, List, ℕ, OnOk, bytes_eq, if◌then◌else◌};
+ghost use Rattle.std.specs.Prelude.{◌≡◌, [], false, ◌&&◌, List, ℕ, OnOk, bytes_eq, if◌then◌else◌};
 ghost use Rattle.ibos_kinds.specs.Cookies.{cookie_in, set_breaks, put};
 ghost use Rattle.ibos_cookie.specs.Jars.{jar_of};
 ghost use Rattle.ibos_model.specs.Journal.{is_ok};
@@ -16,6 +16,7 @@ pub fn set(jars: &mut Jars, origin: &[u8], text: &[u8], out: &mut Outcome) -> Re
     requires items { out.old.items ≡ [] }
     ensures told { OnOk result (out.new ≡ answer (set_breaks text.now (jar_of jars.old origin.now))) }
     ensures jars { OnOk result ((o : List ℕ) → jar_of jars.new o ≡ (if is_ok out.new.head && bytes_eq origin.now o then put (cookie_in text.now) (jar_of jars.old o) else jar_of jars.old o)) }
+    ensures denied { OnOk result (is_ok out.new.head ≡ false → jars.new ≡ jars.old) }
 {
     match jars.set(origin, text) {
         Ok(()) => Ok(()),

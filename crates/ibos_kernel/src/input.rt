@@ -1,5 +1,5 @@
 // The user's keys and clicks.
-ghost use Rattle.std.specs.Prelude.{◌≡◌, ◌<◌, [], ◌∷◌, None, Some, true, OnOk, IfSome, is_some, if◌then◌else◌};
+ghost use Rattle.std.specs.Prelude.{◌≡◌, ◌<◌, [], ◌∷◌, None, Some, true, false, OnOk, IfSome, is_some, if◌then◌else◌};
 ghost use Rattle.ibos_kinds.specs.declared.names.Key.{Key};
 ghost use Rattle.ibos_kinds.specs.Limits.{IsKey};
 ghost use Rattle.ibos_kinds.specs.Keyboard.{key_byte};
@@ -44,6 +44,7 @@ pub fn press(
     ensures tabs { OnOk result (tabs.new ≡ with_pressed hosts.now tabs.old focus.old (is_ok out.new.head) key) }
     ensures focus { OnOk result (focus.new ≡ focus_by tabs.old.active focus.old (is_ok out.new.head) (Press key)) }
     ensures follows { OnOk result (Follows tabs.old tabs.new screen.old screen.new) }
+    ensures denied { OnOk result (is_ok out.new.head ≡ false → screen.new ≡ screen.old) }
 {
     let active = tabs.active();
     match focus.key(key, active.is_some()) {
@@ -90,6 +91,7 @@ fn enter(
     ensures tabs { OnOk result (tabs.new ≡ (if is_ok out.new.head then with_entered tabs.old active (allowed hosts.now focus.old.entry) else tabs.old)) }
     ensures focus { OnOk result (focus.new ≡ (if is_ok out.new.head then record { entry = []; spot = Spot.Content } else focus.old)) }
     ensures follows { OnOk result (Follows tabs.old tabs.new screen.old screen.new) }
+    ensures denied { OnOk result (is_ok out.new.head ≡ false → screen.new ≡ screen.old) }
 {
     let Some(who) = active else { unreachable!() };
     go(tabs, screen, hosts, alloc, who, focus.entry(), out)?;

@@ -1,5 +1,5 @@
 // One step.
-ghost use Rattle.std.specs.Prelude.{◌≡◌, ℕ, ◌<◌, ◌+◌, ◌*◌, ◌^◌, [], ◌∷◌, true, is_ok, length, slice_index, IfOk, IsOk, OnOk};
+ghost use Rattle.std.specs.Prelude.{◌≡◌, ℕ, ◌<◌, ◌+◌, ◌*◌, ◌^◌, [], ◌∷◌, true, false, is_ok as is_whole, length, slice_index, IfOk, IsOk, OnOk};
 ghost use Rattle.ibos_kinds.specs.Limits.{Fits};
 
 use crate::parts::Parts;
@@ -7,6 +7,7 @@ use ibos_cookie::Jars;
 use ibos_focus::Focus;
 use ibos_frame::Screen;
 use ibos_kinds::{Act, Memory, Outcome};
+use ibos_model::{denials_change_nothing, isolation_of_each_entry, sets_are_put};
 use ibos_origin::Hosts;
 use ibos_page::Tabs;
 use std::alloc::Global;
@@ -32,9 +33,9 @@ impl Model for Kernel {
 }
 
 impl Kernel {
-    ghost use Rattle.ibos_model.specs.Journal.{Journal};
+    ghost use Rattle.ibos_model.specs.Journal.{Journal, is_ok};
     ghost use Rattle.ibos_model.specs.Rows.{out as outcome_of};
-    ghost use Rattle.ibos_model.specs.Laws.{IsCarried};
+    ghost use Rattle.ibos_model.specs.Laws.{IsCarried, views};
     ghost use Rattle.ibos_model.specs.Screen.{screen};
     ghost use Rattle.ibos_kernel.specs.Tables.{takes_none};
     ghost use Rattle.ibos_kernel.specs.Standing.{Stands, entry};
@@ -63,7 +64,7 @@ impl Kernel {
         })
     }
 
-    /// Whether the kernel may step: no want of memory has ended it.
+    /// Whether the kernel may step: it has never run out of memory.
     pub fn usable(&self) -> bool
         ensures { result ≡ self.now.usable }
     {
@@ -79,7 +80,7 @@ impl Kernel {
 
     /// Makes one act, and fills `out` with its outcome. Whatever journal the kernel stood for, the outcome
     /// is that journal's row of the act, and the kernel then stands for the journal with the act's entry.
-    /// After want of memory the kernel is spent, and `out` is open.
+    /// Once it is out of memory the kernel is spent, and `out` is open.
     pub fn step(&mut self, alloc: Global, act: &Act, out: &mut Outcome) -> Result<(), Memory>
         requires usable { self.old.usable ≡ true }
         requires acts { self.old.acts < 2 ^ 31 }
@@ -90,13 +91,25 @@ impl Kernel {
         // The head and the items to each instance are what the facts that the act adds give.
         ensures carried { OnOk result ((J : Journal) → Stands J self.old → IsCarried self.old.hosts J (entry act.now out.new)) }
 
+        // A denied act leaves the kernel as it was, but for the count of acts, and so it leaves all that the
+        // journal says.
+        ensures denied { OnOk result (is_ok out.new.head ≡ false
+            → self.new ≡ record self.old { acts = self.old.acts + 1 }) }
+        ensures unchanged { OnOk result ((J : Journal) → is_ok out.new.head ≡ false
+            → views self.old.hosts (entry act.now out.new ∷ J) ≡ views self.old.hosts J) }
+
         // A switch and a draw take no memory.
         ensures free { takes_none act.now ≡ true → IsOk result }
 
         ensures hosts { self.new.hosts ≡ self.old.hosts }
         ensures acts { OnOk result (self.new.acts ≡ self.old.acts + 1) }
-        ensures usable { self.new.usable ≡ is_ok result }
+        ensures usable { self.new.usable ≡ is_whole result }
     {
+        // Called for what their contracts say: the laws that this call's clauses follow from.
+        isolation_of_each_entry();
+        denials_change_nothing();
+        sets_are_put();
+
         out.clear();
         match self.parts.serve(alloc, act, out) {
             Ok(()) => {

@@ -60,7 +60,7 @@ impl Parts {
             return Ok(());
         }
         self.make(alloc, act, out)?;
-        if composes(act) {
+        if is_accepted(out) && composes(act) {
             self.compose();
         }
         Ok(())

@@ -5,13 +5,8 @@ ghost use Rattle.ibos_model.specs.Screen.{seen_row, trimmed};
 ghost use Rattle.ibos_model.specs.Rows.{look_row};
 
 use ibos_frame::Screen;
-use ibos_kinds::{Bytes, Head, Item, Memory, Outcome};
+use ibos_kinds::{Bytes, COLUMNS, Head, Item, Memory, Outcome, SCREEN_ROWS};
 use std::alloc::Global;
-
-/// The screen has so many rows, and each so many cells.
-const ROWS: usize = 25;
-
-const COLUMNS: usize = 80;
 
 /// The user looks at the screen: each row without the spaces at its end.
 pub fn look(screen: &Screen, alloc: Global, out: &mut Outcome) -> Result<(), Memory>
@@ -20,7 +15,7 @@ pub fn look(screen: &Screen, alloc: Global, out: &mut Outcome) -> Result<(), Mem
     ensures told { OnOk result (out.new ≡ look_row (seen_row (seen_at screen.now))) }
 {
     let pixels = screen.pixels();
-    'rows: for row in 0..ROWS {
+    'rows: for row in 0..SCREEN_ROWS {
         let text = row_text(alloc, &pixels[COLUMNS * row..COLUMNS * row + COLUMNS])?;
         out.push(Item::RowIs {
             row: row as u8,
@@ -33,8 +28,7 @@ pub fn look(screen: &Screen, alloc: Global, out: &mut Outcome) -> Result<(), Mem
 fn row_text(alloc: Global, cells: &[u8]) -> Result<Bytes, Memory>
     ensures { IfOk result (λ text. text ≡ trimmed cells.now) }
 {
-    let mut text = Bytes::new(alloc);
-    text.push_slice(trim(cells))?;
+    let text = Bytes::from_slice(alloc, trim(cells))?;
     Ok(text)
 }
 

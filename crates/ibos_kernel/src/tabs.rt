@@ -1,5 +1,5 @@
 // Acts on tabs.
-ghost use Rattle.std.specs.Prelude.{◌≡◌, ◌<◌, [], Some, Ok, Err, OnOk, IfOk, is_some, if◌then◌else◌};
+ghost use Rattle.std.specs.Prelude.{◌≡◌, ◌<◌, [], false, Some, Ok, Err, OnOk, is_some, if◌then◌else◌};
 ghost use Rattle.ibos_model.specs.Journal.{is_ok};
 ghost use Rattle.ibos_model.specs.Rows.{accepted, denied, close_row};
 ghost use Rattle.ibos_origin.specs.Pages.{allowed};
@@ -11,14 +11,6 @@ use ibos_kinds::{Bytes, Head, Instance, Item, Memory, Outcome, Rule};
 use ibos_origin::{Hosts, Page, UrlFault};
 use ibos_page::{Moved, Tabs};
 use std::alloc::Global;
-
-fn url_of(alloc: Global, page: &Page) -> Result<Bytes, Memory>
-    ensures { IfOk result (λ url. url ≡ page.now.url) }
-{
-    let mut url = Bytes::new(alloc);
-    url.push_slice(page.url())?;
-    Ok(url)
-}
 
 /// The user opens a URL in a tab.
 pub fn start(
@@ -37,6 +29,7 @@ pub fn start(
     ensures told { OnOk result (out.new ≡ started_by (start_in tabs.old tab) (allowed hosts.now url.now)) }
     ensures tabs { OnOk result (tabs.new ≡ (if is_ok out.new.head then with_started tabs.old tab (allowed hosts.now url.now) else tabs.old)) }
     ensures follows { OnOk result (Follows tabs.old tabs.new screen.old screen.new) }
+    ensures denied { OnOk result (is_ok out.new.head ≡ false → screen.new ≡ screen.old) }
 {
     let who = match tabs.may_start(tab) {
         Ok(who) => who,
@@ -47,7 +40,7 @@ pub fn start(
     };
     match Page::read(alloc, hosts, url) {
         Ok(page) => {
-            let url = url_of(alloc, &page)?;
+            let url = Bytes::from_slice(alloc, page.url())?;
             out.push(Item::Opened { who, url })?;
             screen.begin(who)?;
             let _ = tabs.start(tab, page);
@@ -83,6 +76,7 @@ pub fn close(tabs: &mut Tabs, screen: &mut Screen, tab: u8, out: &mut Outcome) -
     ensures told { OnOk result (out.new ≡ close_row (live_at tabs.old tab)) }
     ensures tabs { OnOk result (tabs.new ≡ (if is_ok out.new.head then record (with_seat tabs.old tab (closed (seat_at tabs.old tab))) { active = without tab tabs.old.active } else tabs.old)) }
     ensures follows { OnOk result (Follows tabs.old tabs.new screen.old screen.new) }
+    ensures denied { OnOk result (is_ok out.new.head ≡ false → screen.new ≡ screen.old) }
 {
     match tabs.close(tab) {
         Ok(who) => {
@@ -114,10 +108,11 @@ pub fn go(
     ensures told { OnOk result (out.new ≡ go_at tabs.old who (allowed hosts.now url.now)) }
     ensures tabs { OnOk result (tabs.new ≡ (if is_ok out.new.head then with_gone tabs.old who (allowed hosts.now url.now) else tabs.old)) }
     ensures follows { OnOk result (Follows tabs.old tabs.new screen.old screen.new) }
+    ensures denied { OnOk result (is_ok out.new.head ≡ false → screen.new ≡ screen.old) }
 {
     match Page::read(alloc, hosts, url) {
         Ok(page) => {
-            let url = url_of(alloc, &page)?;
+            let url = Bytes::from_slice(alloc, page.url())?;
             go_to(tabs, screen, who, page, url, out)?;
             Ok(())
         }
@@ -145,6 +140,7 @@ fn go_to(
     ensures told { OnOk result (out.new ≡ go_at tabs.old who (Ok page)) }
     ensures tabs { OnOk result (tabs.new ≡ (if is_ok out.new.head then with_gone tabs.old who (Ok page) else tabs.old)) }
     ensures follows { OnOk result (Follows tabs.old tabs.new screen.old screen.new) }
+    ensures denied { OnOk result (is_ok out.new.head ≡ false → screen.new ≡ screen.old) }
 {
     match tabs.go(who, page) {
         Ok(Moved::Same) => {

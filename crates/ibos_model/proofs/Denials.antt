@@ -10,8 +10,8 @@ use Rattle.ibos_model.specs.Focus.{Focus, focus_by, focus_of}
 use Rattle.ibos_model.specs.Tabs.{Tabs, changes, changed_by, tabs, origin_in, active_in}
 use Rattle.ibos_model.specs.Jars.{sets_by, sets_of}
 use Rattle.std.specs.Prelude.{if◌then◌else◌, nat_lt, slice_index, ◌-◌}
-use Rattle.ibos_kinds.specs.Screens.{chrome_rows, space}
-use Rattle.ibos_model.specs.Screen.{cell_by, cell_of, chrome_in, padded, screen}
+use Rattle.ibos_kinds.specs.Screens.{chrome_rows, space, padded}
+use Rattle.ibos_model.specs.Screen.{cell_by, cell_of, chrome_in, screen}
 use Rattle.ibos_model.specs.Laws.{Views, IsUnchanged}
 
 -- what a denied act does to each view

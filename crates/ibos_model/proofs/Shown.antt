@@ -1,17 +1,14 @@
 -- The address bar begins with the active instance's whole origin.
-use Rattle.std.proofs.Common.{◌≡◌, ℕ, zero, suc, ◌≤◌, List, [], ◌∷◌, ◌++◌, Bool, true, false, Option, Some, Ok, Err, Result, refl, sym, ◌∙◌, ap, subst, append_assoc, arith}
-use Rattle.std.specs.Prelude.{if◌then◌else◌, nat_lt, ◌&&◌, length, take, map, codes, IfOk}
+use Rattle.std.proofs.Common.{◌≡◌, ℕ, zero, suc, ◌≤◌, List, [], ◌∷◌, ◌++◌, Bool, true, false, Option, Some, Ok, refl, sym, ◌∙◌, ap, subst, append_assoc, arith}
+use Rattle.std.specs.Prelude.{if◌then◌else◌, nat_lt, ◌&&◌, length, take, map, codes}
 use Rattle.std.proofs.lemmas.Bool.Decides.{nat_tests}
 use Rattle.std.proofs.lemmas.Slice.Eq.{bytes_eq-Decides}
 use Rattle.ibos_kinds.specs.declared.names.Instance.{Instance}
-use Rattle.ibos_kinds.specs.declared.rule.Rule.{Rule}
 use Rattle.std.specs.List.{list_all}
 use Rattle.ibos_kinds.specs.Screens.{columns, is_pixel}
 use Rattle.ibos_origin.specs.Hosts.{HostTable}
 use Rattle.ibos_origin.specs.Pages.{Page, allowed}
 use Rattle.ibos_origin.specs.Tables.{HasPlainNames}
-use Rattle.ibos_origin.proofs.Begins.{Begins, allowed_begins}
-use Rattle.ibos_origin.proofs.Plain.{allowed_plain}
 use Rattle.ibos_model.specs.Journal.{Journal, is_accepted, same}
 use Rattle.ibos_model.specs.Tabs.{Tabs, Change, Opens, Moves, Ends, changed, tabs, origin_with, origin_in}
 use Rattle.ibos_model.specs.Screen.{shown_byte, bar_text, bar_of}
@@ -25,14 +22,13 @@ abbrev Fits : List ℕ → List ℕ → Type 0
 Fits origin url = (((rest : List ℕ) × (url ≡ origin ++ rest)) × (nat_lt 72 (length origin) ≡ false)) × (list_all is_pixel origin ≡ true)
 
 abbrev IsFit : Page → Type 0
-IsFit page = Begins page × (list_all is_pixel page.origin ≡ true)
+IsFit page = Fits page.origin page.url
 
-allowed_fit : (H : HostTable) (text : List ℕ) → HasPlainNames H → IfOk (allowed H text) IsFit
-allowed_fit H text plain = by_page (allowed H text) (allowed_begins H text) (allowed_plain H text plain)
-  where
-    by_page : (r : Result Page Rule) → IfOk r Begins → IfOk r (λ page. list_all is_pixel page.origin ≡ true) → IfOk r IsFit
-    by_page (Ok page) begins is = (begins, is)
-    by_page (Err rule) begins is = tt
+-- the laws of URLs that this one stands on
+pub record UrlLaws : Type 0 where
+  pub begins : (H : HostTable) (text : List ℕ) (page : Page) → allowed H text ≡ Ok page → (rest : List ℕ) × (page.url ≡ page.origin ++ rest)
+  pub short : (H : HostTable) (text : List ℕ) (page : Page) → allowed H text ≡ Ok page → nat_lt 72 (length page.origin) ≡ false
+  pub prints : (H : HostTable) (text : List ℕ) (page : Page) → HasPlainNames H → allowed H text ≡ Ok page → list_all is_pixel page.origin ≡ true
 
 abbrev AllFit : Tabs → Type 0
 AllFit t = (p : Instance) → Fits (origin_in t p) (t.url p)
@@ -49,23 +45,21 @@ moved_fits : (t : Tabs) (who p : Instance) (url : List ℕ) (here : Bool) → sa
 moved_fits t who p url true is new old = subst (λ (q : Instance). Fits (origin_in t q) url) (same-true who p is) new
 moved_fits t who p url false is new old = old
 
-may_fit : (H : HostTable) → HasPlainNames H → (page : Page) → MayShow H page → IsFit page
-may_fit H plain page may = by_page (allowed_fit H may.0 plain) may.1
-  where
-    by_page : IfOk (allowed H may.0) IsFit → allowed H may.0 ≡ Ok page → IsFit page
-    by_page fit is = subst (λ (r : Result Page Rule). IfOk r IsFit) is fit
+may_fit : UrlLaws → (H : HostTable) → HasPlainNames H → (page : Page) → MayShow H page → IsFit page
+may_fit laws H plain page may =
+    ((laws.begins H may.0 page may.1, laws.short H may.0 page may.1), laws.prints H may.0 page plain may.1)
 
-changed_fit : (H : HostTable) → HasPlainNames H → (t : Tabs) (c : Change) → AllFit t → IsDue ⊥ H t c → AllFit (changed t c)
-changed_fit H plain t (Opens who page) fit due p = opened_fits t page p (same who p) (may_fit H plain page due.2) (fit p)
-changed_fit H plain t (Moves who url) fit due p =
+changed_fit : UrlLaws → (H : HostTable) → HasPlainNames H → (t : Tabs) (c : Change) → AllFit t → IsDue ⊥ H t c → AllFit (changed t c)
+changed_fit laws H plain t (Opens who page) fit due p = opened_fits t page p (same who p) (may_fit laws H plain page due.2) (fit p)
+changed_fit laws H plain t (Moves who url) fit due p =
     let to = due.1 in
-    let fits : Fits to.0.origin to.0.url = may_fit H plain to.0 to.1 in
+    let fits : Fits to.0.origin to.0.url = may_fit laws H plain to.0 to.1 in
     let here : Fits (origin_in t who) to.0.url = subst (λ (o : List ℕ). Fits o to.0.url) ((bytes_eq-Decides to.0.origin (origin_in t who)).0 to.3) fits in
     moved_fits t who p url (same who p) refl (subst (λ (u : List ℕ). Fits (origin_in t who) u) (sym to.2) here) (fit p)
-changed_fit H plain t (Ends who) fit due p = fit p
+changed_fit laws H plain t (Ends who) fit due p = fit p
 
-tabs_fit : (H : HostTable) → HasPlainNames H → (J : Journal) → AllFit (tabs H J)
-tabs_fit H plain J = tabs_keep H (λ K. Unit {0}) (IsDue ⊥ H) AllFit (λ p. ((([], refl), refl), refl)) (changed_fit H plain) (λ K e good. tt)
+tabs_fit : UrlLaws → (H : HostTable) → HasPlainNames H → (J : Journal) → AllFit (tabs H J)
+tabs_fit laws H plain J = tabs_keep H (λ K. Unit {0}) (IsDue ⊥ H) AllFit (λ p. ((([], refl), refl), refl)) (changed_fit laws H plain) (λ K e good. tt)
     (λ K e good fit. changes_due ⊥ H K e.act (is_accepted e) absurd absurd) J tt
 
 -- ---- the bar
@@ -109,7 +103,7 @@ bar_begins o url fits =
     ∙ front shown_byte o part.0
     ∙ shown_whole o fits.1
 
-pub origin_shown : IsOriginShown
-origin_shown H J who plain active =
+pub origin_shown : UrlLaws → IsOriginShown
+origin_shown laws H J who plain active =
     ap (λ (a : Option Instance). take (length (origin_in (tabs H J) who)) (bar_of (tabs H J) a)) active
-    ∙ bar_begins (origin_in (tabs H J) who) ((tabs H J).url who) (tabs_fit H plain J who)
+    ∙ bar_begins (origin_in (tabs H J) who) ((tabs H J).url who) (tabs_fit laws H plain J who)

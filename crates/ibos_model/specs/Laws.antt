@@ -9,7 +9,8 @@ use Rattle.ibos_model.specs.Journal.{Entry, Journal, acts, heard, is_accepted}
 use Rattle.ibos_kinds.specs.declared.cookies.Cookie.{Cookie}
 use Rattle.ibos_model.specs.Focus.{Focus, focus_of, is_active}
 use Rattle.ibos_model.specs.Tabs.{Tabs, tabs, origin_of, active_of}
-use Rattle.ibos_model.specs.Jars.{sets_of}
+use Rattle.ibos_kinds.specs.Cookies.{put}
+use Rattle.ibos_model.specs.Jars.{jar, sets_of}
 use Rattle.ibos_model.specs.Screen.{chrome_of, cell_of, screen}
 use Rattle.ibos_model.specs.Runs.{Follows, GoesOn, IsRun, run, run_from}
 use Rattle.ibos_model.specs.Text.{text_of}
@@ -63,6 +64,10 @@ IsChromeKept = (H : HostTable) (J : Journal) (e : Entry) (r : ℕ) → IsRun H (
 abbrev pub IsOriginShown : Type 0
 IsOriginShown = (H : HostTable) (J : Journal) (who : Instance) → HasPlainNames H → active_of H J ≡ Some who →
     take (length (origin_of H J who)) (chrome_of H J 1) ≡ origin_of H J who
+
+-- One set more puts its cookie into the jar: it keeps the place of its name, or goes last.
+abbrev pub AreSetsPut : Type 0
+AreSetsPut = (set : Cookie) (sets : List Cookie) → jar (set ∷ sets) ≡ put set (jar sets)
 
 -- all that a journal says
 pub record Views : Type 0 where

@@ -1,9 +1,9 @@
 -- The screen of 25 rows of 80 cells: three rows that the chrome writes, and the content of the active instance.
-use Rattle.std.specs.Prelude.{ℕ, ◌+◌, ◌-◌, List, [], ◌∷◌, ◌++◌, zero, suc, Bool, ◌==◌, ◌&&◌, nat_lt, length, map, take, drop, replicate, slice_index, codes, decimal, Option, Some, None, if◌then◌else◌}
+use Rattle.std.specs.Prelude.{ℕ, ◌+◌, ◌-◌, List, [], ◌∷◌, ◌++◌, zero, suc, Bool, ◌==◌, ◌&&◌, nat_lt, length, map, take, drop, slice_index, codes, decimal, Option, Some, None, if◌then◌else◌}
 use Rattle.ibos_kinds.specs.declared.names.Instance.{Instance}
 use Rattle.ibos_kinds.specs.declared.act.Act.{Act}
 use Rattle.ibos_kinds.specs.declared.act.Act.TheVariants.{Draw}
-use Rattle.ibos_kinds.specs.Screens.{columns, chrome_rows, space, is_pixel, cell_after}
+use Rattle.ibos_kinds.specs.Screens.{columns, chrome_rows, space, is_pixel, cell_after, padded}
 use Rattle.ibos_origin.specs.Hosts.{HostTable}
 use Rattle.ibos_model.specs.Journal.{Journal, is_accepted, same}
 use Rattle.ibos_model.specs.Focus.{Focus, focus_of}
@@ -41,10 +41,6 @@ chrome_in t f (suc (suc r)) = entry_text f.entry
 
 abbrev pub chrome_of : HostTable → Journal → ℕ → List ℕ
 chrome_of H J r = chrome_in (tabs H J) (focus_of J) r
-
--- a text in a row
-abbrev pub padded : List ℕ → List ℕ
-padded text = text ++ replicate (columns - length text) space
 
 -- a cell of an instance's content, by a draw or as it was
 abbrev pub cell_by : Instance → ℕ → ℕ → Bool → Act → ℕ → ℕ

@@ -2,7 +2,9 @@
 //! run here: each function is a law, which its contract states.
 #![tactic(auto)]
 
-ghost use Rattle.ibos_model.specs.Laws.{AreFronts, AreOfTheirActs, AreRuns, DoGoOn, IsIsolated, IsIsolatedOverTwo, IsCarriedAlways, IsChromeKept, IsOriginShown, IsUnchanged};
+ghost use Rattle.ibos_model.specs.Laws.{AreFronts, AreOfTheirActs, AreRuns, AreSetsPut, DoGoOn, IsIsolated, IsIsolatedOverTwo, IsCarriedAlways, IsChromeKept, IsOriginShown, IsUnchanged};
+
+use ibos_origin::{origins_are_printable, urls_begin_with_their_origin};
 
 /// In every run each instance is told what the facts that concern it give, whatever else happens.
 pub fn isolation()
@@ -25,13 +27,22 @@ pub fn chrome_is_kept()
     ensures { IsChromeKept }
 {}
 
+/// One set more puts its cookie into the jar of its origin.
+pub fn sets_are_put()
+    ensures { AreSetsPut }
+{}
+
 /// The address bar begins with the active instance's origin, whole, whatever the length of its URL. The
 /// host table has plain names, as each one has that was read (`ibos_origin::hosts_have_plain_names`).
 pub fn origins_show_whole()
     ensures { IsOriginShown }
-{}
+{
+    // Called for what their contracts say.
+    urls_begin_with_their_origin();
+    origins_are_printable();
+}
 
-/// A denied act changes nothing.
+/// A denied act changes nothing that a journal says: tabs, focus, jars, contents and the screen.
 pub fn denials_change_nothing()
     ensures { IsUnchanged }
 {}
