@@ -11,9 +11,9 @@ use indexmap::IndexMap;
 use std::alloc::Global;
 use std::marker::Model;
 
-const COOKIES: usize = 20;
+const MAX_COOKIES: usize = 20;
 
-const BYTES: usize = 4096;
+const MAX_BYTES: usize = 4096;
 
 /// The cookies of one origin: the values by their names, in the order in which the names were first set,
 /// and how many bytes both have together.
@@ -80,7 +80,8 @@ impl Jar {
     // Sets a cookie in its place, or as the last.
     fn put(&mut self, alloc: Global, name: &[u8], value: &[u8]) -> Result<(), Memory>
         requires { is_over (put (record { name = name.now; value = value.now }) self.old) ≡ false }
-        ensures ok { OnOk result (self.new ≡ put (record { name = name.now; value = value.now }) self.old) }
+        ensures ok { OnOk result (self.new
+            ≡ put (record { name = name.now; value = value.now }) self.old) }
         ensures err { OnErr result (self.new ≡ self.old) }
     {
         let copy = Bytes::from_slice(alloc, value)?;
@@ -98,7 +99,7 @@ impl Jar {
         }
     }
 
-    /// Sets a cookie by the text `name=value`. After a refusal and after want of memory the jar is as
+    /// Stores one cookie, given as `name=value`. Out of memory, and after a refusal, the jar is as
     /// before.
     pub fn set(&mut self, alloc: Global, text: &[u8]) -> Result<(), CookieFault>
         ensures answer { Answers result (set_breaks text.now self.old) }
@@ -115,7 +116,8 @@ impl Jar {
         }
     }
 
-    /// The cookies as one text, `name=value` joined by `; `.
+    /// All cookies in their order, as a Cookie header has them: pairs with a semicolon and a space
+    /// between.
     pub fn text(&self, alloc: Global) -> Result<Bytes, Memory>
         ensures { IfOk result (λ text. text ≡ jar_text self.now) }
     {
@@ -132,13 +134,14 @@ fn passes_limit(count: usize, bytes: usize, name_len: usize, value_len: usize) -
     requires { bytes ≤ 4096 }
     ensures { result ≡ (nat_lt 20 count || nat_lt 4096 (bytes + name_len + value_len)) }
 {
-    let room = BYTES - bytes;
-    count > COOKIES || name_len > room || value_len > room - name_len
+    let room = MAX_BYTES - bytes;
+    count > MAX_COOKIES || name_len > room || value_len > room - name_len
 }
 
 // Appends a pair, behind a semicolon and a space unless it is the first.
 fn push_pair(text: &mut Bytes, name: &[u8], value: &[u8]) -> Result<(), Memory>
-    ensures { OnOk result (text.new ≡ joined text.old (record { name = name.now; value = value.now })) }
+    ensures { OnOk result (text.new
+        ≡ joined text.old (record { name = name.now; value = value.now })) }
 {
     if !text.is_empty() {
         text.push_slice(b"; ")?;

@@ -25,8 +25,8 @@ impl From<Memory> for CookieFault {
     }
 }
 
-/// The cookie jars of all origins, each found by the hash of its origin. A jar holds at most 20 cookies,
-/// and 4,096 bytes of names and values.
+/// A table from origins to their cookie jars. The limits of a jar are 20 cookies, and 4,096 bytes
+/// in all its names and values.
 #[derive(Drop)]
 pub struct Jars {
     alloc: Global,
@@ -56,9 +56,10 @@ impl Jars {
         }
     }
 
-    /// Sets a cookie of an origin by the text `name=value`. A name that is there keeps its place and gets
-    /// the value; a new one goes last. C1 where the name is no token, C2 where the value is none, C3
-    /// where the jar would pass a limit. After a refusal and after want of memory the jars are as before.
+    /// Stores one cookie of an origin, given as `name=value`. A new value for a name leaves the
+    /// jar's order; a name that the jar lacks comes behind all others. Broken are, the first that
+    /// applies, C1 by a bad name, C2 by a bad value (RFC 6265, section 4.1.1), and C3 by a jar that
+    /// would grow past its limits. Out of memory, and after a refusal, the jars are as before.
     pub fn set(&mut self, origin: &[u8], text: &[u8]) -> Result<(), CookieFault>
         ensures answer { Answers result (set_breaks text.now (jar_of self.old origin.now)) }
         ensures ok { OnOk result (SetsIn self.old self.new origin.now (cookie_in text.now)) }
@@ -84,7 +85,8 @@ impl Jars {
         Ok(())
     }
 
-    /// The cookies of an origin as one text, `name=value` joined by `; `, empty for an empty jar.
+    /// All cookies of an origin in their order, as a Cookie header has them (RFC 6265, section
+    /// 4.2.1): pairs with a semicolon and a space between them. No text, if there are none.
     pub fn text(&self, alloc: Global, origin: &[u8]) -> Result<Bytes, Memory>
         ensures { IfOk result (λ text. text ≡ jar_text (jar_of self.now origin.now)) }
     {

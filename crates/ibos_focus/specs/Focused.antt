@@ -15,7 +15,7 @@ use Rattle.ibos_focus.specs.declared.focus.ClickDone.TheVariants.{Chrome, Entry 
 
 -- the bytes of the entry line, and whether keys go there or to the content
 pub record Focused : Type 0 where
-  pub entry : List ℕ
+  pub entry_line : List ℕ
   pub spot : Spot
 
 -- an edit, unless it breaks a rule
@@ -35,7 +35,7 @@ key_at Entry entry key active = entry_key entry key active
 
 -- the answer to a key
 abbrev pub key_of : Focused → Key → Bool → Result KeyDone Rule
-key_of f key active = key_at f.spot f.entry key active
+key_of f key active = key_at f.spot f.entry_line key active
 
 -- the entry line after a key; a refused one leaves it
 abbrev pub entry_after : Spot → List ℕ → Key → List ℕ
@@ -43,7 +43,7 @@ entry_after Content entry key = entry
 entry_after Entry entry key = if is_some (key_breaks entry key) then entry else typed entry key
 
 abbrev pub after_key : Focused → Key → Focused
-after_key f key = record f { entry = entry_after f.spot f.entry key }
+after_key f key = record f { entry_line = entry_after f.spot f.entry_line key }
 
 -- the chrome's last row is the entry line's
 abbrev pub entry_row : ℕ

@@ -37,7 +37,8 @@ pub enum ClickDone {
     Content { row: u8, col: u8 },
 }
 
-/// The entry line of at most 1,024 bytes, each 0x20 to 0x7E, and where keys go. Takes no memory.
+/// What is typed into the entry line, printable bytes in an array with room for 1,024, and who gets
+/// the next key. No call takes memory.
 #[derive(Drop)]
 pub struct Focus {
     entry: ArrayVec<u8, 1024>,
@@ -52,7 +53,7 @@ impl Model for Focus {
 
     ghost Value = { Focused };
 
-    ghost view = { λ f. record { entry = f.entry.items; spot = f.spot } };
+    ghost view = { λ f. record { entry_line = f.entry.items; spot = f.spot } };
 
     ghost invariant = { λ f. list_all is_pixel f.entry.items ≡ true };
 }
@@ -60,9 +61,9 @@ impl Model for Focus {
 impl Focus {
     ghost use Rattle.ibos_focus.specs.Focused.{key_of, after_key, click_of, after_click};
 
-    /// An empty entry line, to which keys go.
+    /// Nothing is typed yet, and the entry line gets the keys.
     pub fn new() -> Focus
-        ensures { result ≡ record { entry = []; spot = Spot.Entry } }
+        ensures { result ≡ record { entry_line = []; spot = Spot.Entry } }
     {
         Focus {
             entry: ArrayVec::new(),
@@ -70,9 +71,10 @@ impl Focus {
         }
     }
 
-    /// Where a key goes. At the content it goes to the active instance: Enter as 0x0A, Back as 0x08. At
-    /// the entry line a byte is appended, U11 exactly where 1,024 stand there; Back removes the last byte, if
-    /// there is one; and Enter is U10 exactly where nothing is active.
+    /// Takes a key. While keys go to a page, it gets the key's byte: a line feed for Enter, a
+    /// backspace for Back. While they go to the entry line, a printable byte is added to it, or U11
+    /// is broken because the line is full; Back shortens the line, and does nothing to an empty
+    /// one; Enter leaves it to the caller, and breaks U10 if no tab is active.
     pub fn key(&mut self, key: Key, active: bool) -> Result<KeyDone, Rule>
         requires byte { IsKey key }
         requires spot { active ≡ false → self.old.spot ≡ Spot.Entry }
@@ -105,9 +107,10 @@ impl Focus {
         }
     }
 
-    /// Where a click falls, by its row and column on the screen: U12 exactly where the row is above 24 or
-    /// the column above 79. Rows 0 and 1 change nothing, row 2 sends keys to the entry line. The rows from 3
-    /// on are U10 exactly where nothing is active; else they send keys to the content, and are told less 3.
+    /// Takes a click on a cell of the screen, or breaks U12 if there is no such cell. The entry
+    /// line and the content each get the keys once they are clicked on; the chrome's other rows do
+    /// nothing. A click on the content breaks U10 if no tab is active; its row is counted from the
+    /// content's first.
     pub fn click(&mut self, row: u32, col: u32, active: bool) -> Result<ClickDone, Rule>
         ensures answer { result ≡ click_of row col active }
         ensures after { self.new ≡ after_click self.old row col active }
@@ -135,7 +138,7 @@ impl Focus {
 
     /// The entry line's bytes.
     pub fn entry(&self) -> &[u8]
-        ensures value { result.now ≡ self.now.entry }
+        ensures value { result.now ≡ self.now.entry_line }
         ensures fits { length result.now ≤ 1024 }
         ensures printable { list_all is_pixel result.now ≡ true }
     {
@@ -151,7 +154,7 @@ impl Focus {
 
     /// Empties the entry line.
     pub fn clear(&mut self)
-        ensures { self.new ≡ record self.old { entry = [] } }
+        ensures { self.new ≡ record self.old { entry_line = [] } }
     {
         self.entry.clear();
     }

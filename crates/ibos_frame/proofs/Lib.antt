@@ -1,3 +1,3 @@
-mod Lines
-mod Parts
-mod Places
+mod DrawnLines
+mod ScreenPixels
+mod ContentPlaces

@@ -54,7 +54,8 @@ impl Content {
         requires rows { row + height ≤ content_rows }
         requires columns { col + width ≤ columns }
         requires count { length pixels.now ≡ height * width }
-        ensures { (r c : ℕ) → c < 80 → slice_index self.new (80 * r + c) ≡ cell_after row col height width pixels.now r c (slice_index self.old (80 * r + c)) }
+        ensures { (r c : ℕ) → c < 80 → slice_index self.new (80 * r + c)
+            ≡ cell_after row col height width pixels.now r c (slice_index self.old (80 * r + c)) }
     {
         paint(self.pixels.as_mut_slice(), row, col, height, width, pixels);
     }
@@ -75,7 +76,8 @@ fn paint(target: &mut [u8], row: usize, col: usize, height: usize, width: usize,
     requires rows { row + height ≤ content_rows }
     requires columns { col + width ≤ columns }
     requires count { length pixels.now ≡ height * width }
-    ensures { (r c : ℕ) → c < 80 → slice_index target.new (80 * r + c) ≡ cell_after row col height width pixels.now r c (slice_index target.old (80 * r + c)) }
+    ensures { (r c : ℕ) → c < 80 → slice_index target.new (80 * r + c)
+        ≡ cell_after row col height width pixels.now r c (slice_index target.old (80 * r + c)) }
 {
     'lines: for k in 0..height {
         let at = (row + k) * COLUMNS + col;

@@ -2,8 +2,8 @@
 ghost use Rattle.std.specs.Prelude.{◌≡◌, ◌≢◌, ℕ, ◌+◌, ◌*◌, ◌<◌, ◌≤◌, length, slice_index_or, slice_index, None, Some, OnOk, OnErr, vec_len};
 ghost use Rattle.ibos_kinds.specs.declared.names.Instance.{Instance};
 ghost use Rattle.ibos_kinds.specs.Screens.{content_rows, columns, cell_after};
-ghost use Rattle.ibos_frame.specs.Frames.{content_in, pixel_in};
-ghost use Rattle.ibos_frame.specs.Frames as spec;
+ghost use Rattle.ibos_frame.specs.ScreenStates.{content_in, pixel_in};
+ghost use Rattle.ibos_frame.specs.ScreenStates as spec;
 
 use crate::content::Content;
 use ibos_kinds::{Instance, Memory};
@@ -37,7 +37,8 @@ impl Contents {
     /// Gives an instance a content.
     pub(crate) fn begin(&mut self, who: Instance, content: Content) -> Result<(), Memory>
         ensures own { OnOk result (content_in self.new who ≡ Some content) }
-        ensures others { OnOk result ((q : Instance) → q ≢ who → content_in self.new q ≡ content_in self.old q) }
+        ensures others { OnOk result ((q : Instance) → q ≢ who → content_in self.new q
+            ≡ content_in self.old q) }
         ensures err { OnErr result (self.new ≡ self.old) }
     {
         let place = place_of(who);
@@ -82,7 +83,9 @@ impl Contents {
         requires columns { col + width ≤ columns }
         requires count { length pixels.now ≡ height * width }
         ensures open { content_in self.new who ≢ None }
-        ensures own { (r c : ℕ) → c < 80 → pixel_in (content_in self.new who) r c ≡ cell_after row col height width pixels.now r c (pixel_in (content_in self.old who) r c) }
+        ensures own { (r c : ℕ) → c < 80 → pixel_in (content_in self.new who) r c
+            ≡ cell_after row col height width pixels.now r c
+            (pixel_in (content_in self.old who) r c) }
         ensures others { (q : Instance) → q ≢ who → content_in self.new q ≡ content_in self.old q }
     {
         match &mut self.places[place_of(who)] {
@@ -105,7 +108,8 @@ fn place_of(who: Instance) -> usize
 fn reach(places: &mut Vec<Option<Content>>, place: usize) -> Result<(), Memory>
     requires { place < 65536 }
     ensures ok { OnOk result (place < vec_len places.new) }
-    ensures same { (k : ℕ) → slice_index_or places.new.items k None ≡ slice_index_or places.old.items k None }
+    ensures same { (k : ℕ) → slice_index_or places.new.items k None
+        ≡ slice_index_or places.old.items k None }
     ensures err { OnErr result (places.new.items ≡ places.old.items) }
 {
     let len = places.len();

@@ -1,7 +1,7 @@
 // The rows that are seen.
 ghost use Rattle.std.specs.Prelude.{◌≡◌, ◌≢◌, ℕ, ◌+◌, ◌*◌, ◌<◌, ◌≤◌, ◌++◌, length, take, drop, replicate, IfOk};
 ghost use Rattle.ibos_kinds.specs.Screens.{columns, padded, space};
-ghost use Rattle.ibos_frame.specs.Frames.{line_of};
+ghost use Rattle.ibos_frame.specs.ScreenStates.{line_of};
 
 use crate::content::{SPACE, spaces};
 use ibos_kinds::{CHROME_ROWS, COLUMNS, Memory, SCREEN_ROWS};
@@ -20,7 +20,7 @@ pub(crate) struct Rows {
 
 impl Model for Rows {
     ghost use Rattle.std.specs.Prelude.{◌≡◌, length, take, drop};
-    ghost use Rattle.ibos_frame.specs.Frames.{Seen};
+    ghost use Rattle.ibos_frame.specs.ScreenStates.{Seen};
 
     ghost Value = { Seen };
 
@@ -69,7 +69,8 @@ impl Rows {
         requires row { row < 3 }
         requires fits { length text.now ≤ columns }
         ensures row { line_of self.new.chrome row ≡ padded text.now }
-        ensures rows { (r : ℕ) → r < 3 → r ≢ row → line_of self.new.chrome r ≡ line_of self.old.chrome r }
+        ensures rows { (r : ℕ) → r < 3 → r ≢ row → line_of self.new.chrome r
+            ≡ line_of self.old.chrome r }
         ensures body { self.new.body ≡ self.old.body }
     {
         write_row(self.pixels.as_mut_slice(), row, text);
@@ -98,7 +99,8 @@ fn write_row(pixels: &mut [u8], row: usize, text: &[u8])
     requires row { row < 3 }
     requires fits { length text.now ≤ columns }
     ensures row { line_of (take 240 pixels.new) row ≡ padded text.now }
-    ensures rows { (r : ℕ) → r < 3 → r ≢ row → line_of (take 240 pixels.new) r ≡ line_of (take 240 pixels.old) r }
+    ensures rows { (r : ℕ) → r < 3 → r ≢ row → line_of (take 240 pixels.new) r
+        ≡ line_of (take 240 pixels.old) r }
     ensures body { drop 240 pixels.new ≡ drop 240 pixels.old }
 {
     let at = row * COLUMNS;

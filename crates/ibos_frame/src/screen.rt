@@ -4,7 +4,7 @@ ghost use Rattle.std.specs.List.{list_all};
 ghost use Rattle.ibos_kinds.specs.declared.names.Instance.{Instance};
 ghost use Rattle.ibos_kinds.specs.Screens.{columns, content_rows, space, is_pixel, draw_breaks, cell_after, padded};
 ghost use Rattle.ibos_kinds.specs.Screens as spec;
-ghost use Rattle.ibos_frame.specs.Frames.{answer_of, body_of, content_in};
+ghost use Rattle.ibos_frame.specs.ScreenStates.{answer_of, body_of, content_in};
 
 use crate::content::Content;
 use crate::contents::Contents;
@@ -13,9 +13,10 @@ use ibos_kinds::{COLUMNS, CONTENT_ROWS, Instance, Memory, Rule};
 use std::alloc::Global;
 use std::marker::Model;
 
-/// The screen of 25 rows of 80 one-byte pixels: three rows of chrome, and then the content of the instance
-/// that was shown last, as long as it has not ended, or else spaces. A content has 22 rows of 80 pixels,
-/// each a printable byte of ASCII. No call but `new` and `begin` takes memory.
+/// What is on the screen, in cells of one printable byte of ASCII: the chrome's rows, and under
+/// them the content of one instance, or blanks if none is chosen or it has ended. Each instance
+/// that was added has a content of its own, which is kept while others are shown. Only `new` and
+/// `begin` take memory.
 #[derive(Drop)]
 pub struct Screen {
     alloc: Global,
@@ -26,9 +27,9 @@ pub struct Screen {
 
 impl Model for Screen {
     ghost use Rattle.std.specs.Prelude.{◌≡◌};
-    ghost use Rattle.ibos_frame.specs.Frames.{Frames, body_of};
+    ghost use Rattle.ibos_frame.specs.ScreenStates.{ScreenState, body_of};
 
-    ghost Value = { Frames };
+    ghost Value = { ScreenState };
 
     ghost view = { λ s. record { contents = s.contents; shown = s.shown; chrome = s.rows.chrome } };
 
@@ -37,13 +38,14 @@ impl Model for Screen {
 }
 
 impl Screen {
-    ghost use Rattle.ibos_frame.specs.Frames.{content_of, content_at, is_open, chrome_at, seen_at};
+    ghost use Rattle.ibos_frame.specs.ScreenStates.{content_of, content_at, is_open, chrome_at, seen_at};
 
-    /// All spaces: no content was added, and nothing is shown.
+    /// A blank screen, and no contents.
     pub fn new(alloc: Global) -> Result<Screen, Memory>
         ensures open { IfOk result (λ screen. (q : Instance) → content_of screen q ≡ None) }
         ensures shown { IfOk result (λ screen. screen.shown ≡ None) }
-        ensures chrome { IfOk result (λ screen. (r : ℕ) → r < 3 → chrome_at screen r ≡ replicate 80 space) }
+        ensures chrome { IfOk result (λ screen. (r : ℕ) → r < 3 → chrome_at screen r
+            ≡ replicate 80 space) }
     {
         Ok(Screen {
             alloc,
@@ -53,11 +55,12 @@ impl Screen {
         })
     }
 
-    /// Adds a content of 22 rows of spaces for an instance.
+    /// Gives an instance a blank content.
     pub fn begin(&mut self, who: Instance) -> Result<(), Memory>
         requires { is_open self.old who ≡ false }
         ensures open { OnOk result (is_open self.new who ≡ true) }
-        ensures blank { OnOk result ((r c : ℕ) → r < 22 → c < 80 → content_at self.new who r c ≡ space) }
+        ensures blank { OnOk result ((r c : ℕ) → r < 22 → c < 80 → content_at self.new who r c
+            ≡ space) }
         ensures others { (q : Instance) → q ≢ who → content_of self.new q ≡ content_of self.old q }
         ensures shown { self.new.shown ≡ self.old.shown }
         ensures chrome { self.new.chrome ≡ self.old.chrome }
@@ -68,8 +71,8 @@ impl Screen {
         Ok(())
     }
 
-    /// Gives up the content of an instance, and the memory that it had. Where the instance is shown, rows
-    /// 3 to 24 become spaces.
+    /// Drops an instance's content and frees its memory. If it was on the screen, its rows are
+    /// blank from now on.
     pub fn end(&mut self, who: Instance)
         requires { is_open self.old who ≡ true }
         ensures open { is_open self.new who ≡ false }
@@ -85,10 +88,10 @@ impl Screen {
         }
     }
 
-    /// Draws a region of an instance's content, from its row and column on, by pixels that come row after
-    /// row. P3 where the region is empty or passes the content, or the pixels are not as many as it has;
-    /// P4 where a pixel is no printable byte of ASCII. What is drawn is seen at once where the instance is
-    /// shown, and once it is shown otherwise.
+    /// Writes a rectangle of an instance's content, whose row and column count from the content's
+    /// corner; `pixels` has its cells line by line. P3 is broken by a rectangle without cells, by
+    /// one that leaves the content, and by another number of pixels than it has cells; P4 by a byte
+    /// that can't be printed. The screen follows at once if this content is on it.
     pub fn draw(
         &mut self,
         who: Instance,
@@ -101,7 +104,8 @@ impl Screen {
         requires { is_open self.old who ≡ true }
         ensures answer { result ≡ answer_of (draw_breaks row col height width pixels.now) }
         ensures open { is_open self.new who ≡ true }
-        ensures drawn { OnOk result ((r c : ℕ) → r < 22 → c < 80 → content_at self.new who r c ≡ cell_after row col height width pixels.now r c (content_at self.old who r c)) }
+        ensures drawn { OnOk result ((r c : ℕ) → r < 22 → c < 80 → content_at self.new who r c
+            ≡ cell_after row col height width pixels.now r c (content_at self.old who r c)) }
         ensures others { (q : Instance) → q ≢ who → content_of self.new q ≡ content_of self.old q }
         ensures shown { self.new.shown ≡ self.old.shown }
         ensures chrome { self.new.chrome ≡ self.old.chrome }
@@ -122,7 +126,7 @@ impl Screen {
         Ok(())
     }
 
-    /// Shows an instance's content in rows 3 to 24, or spaces.
+    /// Puts an instance's content on the screen, or blanks.
     pub fn show(&mut self, active: Option<Instance>)
         requires { IfSome active (λ who. is_open self.old who ≡ true) }
         ensures shown { self.new.shown ≡ active }
@@ -136,7 +140,7 @@ impl Screen {
         }
     }
 
-    /// Makes one of rows 0 to 2 a text of at most 80 bytes, padded by spaces.
+    /// Writes one of the chrome's rows: the text, and spaces up to the row's end.
     pub fn chrome(&mut self, row: u8, text: &[u8])
         requires row { row < 3 }
         requires fits { length text.now ≤ 80 }
@@ -148,10 +152,11 @@ impl Screen {
         self.rows.write(row as usize, text);
     }
 
-    /// The 2,000 pixels, row by row.
+    /// Every cell of the screen, one row after the other.
     pub fn pixels(&self) -> &[u8]
         ensures count { length result.now ≡ 2000 }
-        ensures pixels { (r c : ℕ) → r < 25 → c < 80 → slice_index result.now (80 * r + c) ≡ seen_at self.now r c }
+        ensures pixels { (r c : ℕ) → r < 25 → c < 80 → slice_index result.now (80 * r + c)
+            ≡ seen_at self.now r c }
     {
         self.rows.as_slice()
     }

@@ -1,6 +1,6 @@
 ghost use Rattle.std.specs.Prelude.{◌≡◌, ◌≢◌, ◌<◌, true, IfOk};
 ghost use Rattle.ibos_kinds.specs.declared.names.Instance.{Instance};
-ghost use Rattle.ibos_frame.specs.Frames.{content_of, is_open};
+ghost use Rattle.ibos_frame.specs.ScreenStates.{content_of, is_open};
 
 use super::*;
 use ibos_kinds::{Instance, Memory, Rule};

@@ -10,7 +10,7 @@ use Rattle.ibos_cookie.specs.Jars.{jar_of}
 use Rattle.ibos_model.specs.Journal.{Journal, Entry}
 use Rattle.ibos_model.specs.Tabs.{Tabs, Life, Unborn, Alive, Gone, tabs, life_in, origin_in}
 use Rattle.ibos_kinds.specs.Screens.{space}
-use Rattle.ibos_frame.specs.Frames.{content_at}
+use Rattle.ibos_frame.specs.ScreenStates.{content_at}
 use Rattle.ibos_model.specs.Focus.{active_tab, focus_of}
 use Rattle.ibos_model.specs.Screen.{cell_of}
 use Rattle.ibos_model.specs.Jars.{jar, sets_of}
@@ -27,8 +27,8 @@ life_by who seat =
 abbrev pub life_at : TabTable → Instance → Life
 life_at t who = life_by who (seat_at t who.tab)
 
--- the table of tabs shows what the journal's views of tabs say
-pub record Shows (T : Tabs) (t : TabTable) : Type 0 where
+-- the table of tabs stands for what the journal's views of tabs say
+pub record TabsStand (T : Tabs) (t : TabTable) : Type 0 where
   pub room : length t.seats ≡ 64
   pub count : (tab : ℕ) → T.count tab ≡ (seat_at t tab).count
   pub live : (tab : ℕ) → T.live tab ≡ live_at t tab
@@ -38,18 +38,18 @@ pub record Shows (T : Tabs) (t : TabTable) : Type 0 where
   pub origin : (who : Instance) → live_at t who.tab ≡ Some who → origin_in T who ≡ origin_at t who
   pub url : (who : Instance) → live_at t who.tab ≡ Some who → T.url who ≡ url_with (seat_at t who.tab).page
 
--- the screen's parts show what the journal's views of focus and screen say
+-- the screen's parts stand for what the journal's views of focus and screen say
 pub record Displays (J : Journal) (t : Parts) : Type 0 where
-  pub spot : (focus_of J).at_entry ≡ is_entry t.focus.spot
-  pub entry : (focus_of J).entry ≡ t.focus.entry
-  pub cells : (q : Instance) (r c : ℕ) → r < 22 → c < 80 → is_live t.tabs q ≡ true → content_at t.frames q r c ≡ cell_of J q r c
+  pub spot : (focus_of J).at_entry_line ≡ is_entry t.focus.spot
+  pub entry_line : (focus_of J).entry_line ≡ t.focus.entry_line
+  pub cells : (q : Instance) (r c : ℕ) → r < 22 → c < 80 → is_live t.tabs q ≡ true → content_at t.screen q r c ≡ cell_of J q r c
   pub blank : (q : Instance) (r c : ℕ) → (seat_at t.tabs q.tab).count ≤ q.ord → cell_of J q r c ≡ space
-  pub tied : IsTied t.tabs t.frames t.focus
+  pub tied : IsTied t.tabs t.screen t.focus
 
 -- the kernel's parts stand for a journal, which is that of a run
 pub record Holds (J : Journal) (t : Parts) : Type 0 where
   pub run : IsRun t.hosts J
-  pub shown : Shows (tabs t.hosts J) t.tabs
+  pub tabs : TabsStand (tabs t.hosts J) t.tabs
   pub active : active_tab J ≡ t.tabs.active
   pub jars : (o : List ℕ) → jar_of t.jars o ≡ jar (sets_of t.hosts J o)
   pub displays : Displays J t

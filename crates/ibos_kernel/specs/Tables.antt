@@ -17,30 +17,31 @@ use Rattle.ibos_page.specs.declared.tabs.Moved.{Moved}
 use Rattle.ibos_page.specs.declared.tabs.Moved.TheVariants.{Same, New}
 use Rattle.ibos_origin.specs.Hosts.{HostTable}
 use Rattle.ibos_origin.specs.Pages.{Page, allowed}
-use Rattle.ibos_page.specs.Tabs.{TabTable, seat_at, live_at, active_in, is_live_in, start_in, go_in, opened, moved, closed, with_seat, without, admission, origin_with}
-use Rattle.ibos_frame.specs.Frames.{Frames, content_of, content_at, is_open, chrome_at, seen_at}
+use Rattle.ibos_page.specs.Tabs.{TabTable, seat_at, live_at, active_in, is_live_in, start_in, go_in, opened, moved, closed, with_seat, without, origin_with}
+use Rattle.ibos_route.specs.Parties.{admission_of}
+use Rattle.ibos_frame.specs.ScreenStates.{ScreenState, content_of, content_at, is_open, chrome_at, seen_at}
 use Rattle.ibos_focus.specs.Focused.{Focused}
 use Rattle.ibos_focus.specs.declared.focus.Spot.{Spot}
 use Rattle.ibos_focus.specs.declared.focus.Spot.TheVariants.{Entry, Content}
 use Rattle.ibos_cookie.specs.Jars.{OriginJar, jar_of}
 use Rattle.ibos_model.specs.Journal.{is_ok}
-use Rattle.ibos_model.specs.Focus.{at_entry_by, entry_by}
-use Rattle.ibos_model.specs.Screen.{cell_by, state_text, bar_text, entry_text, seen_row}
-use Rattle.ibos_model.specs.Rows.{accepted, denied, answer, open_row, close_row, page_key_row, click_row, look_row, draw_row}
+use Rattle.ibos_model.specs.Focus.{at_entry_line_by, entry_line_by}
+use Rattle.ibos_model.specs.Screen.{cell_by, state_text, bar_text, entry_line_text, seen_row}
+use Rattle.ibos_model.specs.Outcomes.{accepted, denied, answer, open_outcome, close_outcome, page_key_outcome, click_outcome, look_outcome, draw_outcome}
 
 -- what acts read and change
 pub record Parts : Type 0 where
   pub hosts : HostTable
   pub tabs : TabTable
   pub jars : List OriginJar
-  pub frames : Frames
+  pub screen : ScreenState
   pub focus : Focused
 
 pub record Tables : Type 0 where
   pub hosts : HostTable
   pub tabs : TabTable
   pub jars : List OriginJar
-  pub frames : Frames
+  pub screen : ScreenState
   pub focus : Focused
   -- how many acts there have been
   pub acts : ℕ
@@ -48,7 +49,7 @@ pub record Tables : Type 0 where
   pub usable : Bool
 
 abbrev pub parts_of : Tables → Parts
-parts_of t = record { hosts = t.hosts; tabs = t.tabs; jars = t.jars; frames = t.frames; focus = t.focus }
+parts_of t = record { hosts = t.hosts; tabs = t.tabs; jars = t.jars; screen = t.screen; focus = t.focus }
 
 -- ---- the screen beside the tabs
 
@@ -60,7 +61,7 @@ is_entry Entry = true
 is_entry Content = false
 
 abbrev pub spot_of : Bool → Spot
-spot_of at_entry = if at_entry then Entry else Content
+spot_of at_entry_line = if at_entry_line then Entry else Content
 
 abbrev pub url_with : Option Page → List ℕ
 url_with None = []
@@ -74,31 +75,31 @@ bar_at t (Some who) = bar_text (url_with (seat_at t who.tab).page)
 abbrev pub chrome_by : TabTable → Focused → ℕ → List ℕ
 chrome_by t f zero = state_text (active_in t) (is_entry f.spot)
 chrome_by t f (suc zero) = bar_at t (active_in t)
-chrome_by t f (suc (suc r)) = entry_text f.entry
+chrome_by t f (suc (suc r)) = entry_line_text f.entry_line
 
 -- the instances that live have a content
-abbrev pub IsOpenWhereLive : TabTable → Frames → Type 0
-IsOpenWhereLive t frames = (q : Instance) → is_open frames q ≡ is_live t q
+abbrev pub IsOpenWhereLive : TabTable → ScreenState → Type 0
+IsOpenWhereLive t screen = (q : Instance) → is_open screen q ≡ is_live t q
 
 -- the screen shows the chrome's texts, and the content of the active instance
-pub record IsComposed (t : TabTable) (frames : Frames) (focus : Focused) : Type 0 where
-  pub shown : frames.shown ≡ active_in t
-  pub chrome : (r : ℕ) → r < 3 → chrome_at frames r ≡ padded (chrome_by t focus r)
+pub record IsComposed (t : TabTable) (screen : ScreenState) (focus : Focused) : Type 0 where
+  pub shown : screen.shown ≡ active_in t
+  pub chrome : (r : ℕ) → r < 3 → chrome_at screen r ≡ padded (chrome_by t focus r)
 
 -- the contents beside the 64 tabs, whose live instances are the newest
-pub record IsBeside (t : TabTable) (frames : Frames) : Type 0 where
+pub record IsBeside (t : TabTable) (screen : ScreenState) : Type 0 where
   pub room : length t.seats ≡ 64
   pub newest : (tab : ℕ) (who : Instance) → live_at t tab ≡ Some who → who.ord + 1 ≡ (seat_at t tab).count
-  pub lives : IsOpenWhereLive t frames
+  pub lives : IsOpenWhereLive t screen
 
 -- what the parts of the screen have to do with the tabs
-pub record IsTied (t : TabTable) (frames : Frames) (focus : Focused) : Type 0 where
-  pub beside : IsBeside t frames
-  pub composed : IsComposed t frames focus
-  pub entry : t.active ≡ None → focus.spot ≡ Entry
+pub record IsTied (t : TabTable) (screen : ScreenState) (focus : Focused) : Type 0 where
+  pub beside : IsBeside t screen
+  pub composed : IsComposed t screen focus
+  pub entry_line : t.active ≡ None → focus.spot ≡ Entry
 
 -- contents go with their instances: those that started have an empty one, and those that stayed keep theirs
-pub record Follows (old new : TabTable) (before after : Frames) : Type 0 where
+pub record Follows (old new : TabTable) (before after : ScreenState) : Type 0 where
   pub lives : IsOpenWhereLive new after
   pub kept : (q : Instance) → is_live old q ≡ true → is_live new q ≡ true → content_of after q ≡ content_of before q
   pub blank : (q : Instance) (r c : ℕ) → r < 22 → c < 80 → is_live old q ≡ false → is_live new q ≡ true → content_at after q r c ≡ space
@@ -117,7 +118,7 @@ get_at jars origin who = accepted (Cookies who (jar_text (jar_of jars origin)) �
 
 -- a page opens as the instance that would start
 abbrev pub started_by : Result Instance Rule → Result Page Rule → Outcome
-started_by (Ok who) r = open_row who r
+started_by (Ok who) r = open_outcome who r
 started_by (Err rule) r = denied rule
 
 -- an instance goes to a page
@@ -140,20 +141,24 @@ entry_key_at H t entry Enter = enter_at t (active_in t) (allowed H entry)
 entry_key_at H t entry key = answer (key_breaks entry key)
 
 abbrev pub press_at : HostTable → TabTable → Focused → Key → Outcome
-press_at H t f key = if is_entry f.spot then entry_key_at H t f.entry key else page_key_row (active_in t) key
+press_at H t f key = if is_entry f.spot then entry_key_at H t f.entry_line key else page_key_outcome (active_in t) key
+
+-- the outcome of an act by the tables, where its actor may act
+abbrev pub admitted_outcome : Parts → Act → Outcome
+admitted_outcome t (Start tab url) = started_by (start_in t.tabs tab) (allowed t.hosts url)
+admitted_outcome t (Switch tab) = if is_some (seat_at t.tabs tab).page then accepted [] else denied U2
+admitted_outcome t (Close tab) = close_outcome (live_at t.tabs tab)
+admitted_outcome t (Press key) = press_at t.hosts t.tabs t.focus key
+admitted_outcome t (Click r c) = click_outcome (active_in t.tabs) r c
+admitted_outcome t Look = look_outcome (seen_row (seen_at t.screen))
+admitted_outcome t (Draw who r c height width pixels) = draw_outcome r c height width pixels
+admitted_outcome t (Go who url) = go_at t.tabs who (allowed t.hosts url)
+admitted_outcome t (CookieSet side who text) = answer (set_breaks text (jar_of t.jars (origin_at t.tabs who)))
+admitted_outcome t (CookieGet side who) = get_at t.jars (origin_at t.tabs who) who
 
 -- the outcome of an act, by the tables
-abbrev pub row : Parts → Act → Outcome
-row t (Start tab url) = started_by (start_in t.tabs tab) (allowed t.hosts url)
-row t (Switch tab) = if is_some (seat_at t.tabs tab).page then accepted [] else denied U2
-row t (Close tab) = close_row (live_at t.tabs tab)
-row t (Press key) = press_at t.hosts t.tabs t.focus key
-row t (Click r c) = click_row (active_in t.tabs) r c
-row t Look = look_row (seen_row (seen_at t.frames))
-row t (Draw who r c height width pixels) = let_in (admission t.tabs who) (draw_row r c height width pixels)
-row t (Go who url) = let_in (admission t.tabs who) (go_at t.tabs who (allowed t.hosts url))
-row t (CookieSet side who text) = let_in (admission t.tabs who) (answer (set_breaks text (jar_of t.jars (origin_at t.tabs who))))
-row t (CookieGet side who) = let_in (admission t.tabs who) (get_at t.jars (origin_at t.tabs who) who)
+abbrev pub outcome_by : Parts → Act → Outcome
+outcome_by t act = let_in (admission_of t.tabs act) (admitted_outcome t act)
 
 -- the tabs after an accepted start, and after an accepted move
 abbrev pub with_started : TabTable → ℕ → Result Page Rule → TabTable
@@ -170,7 +175,7 @@ with_entered t None r = t
 with_entered t (Some who) r = with_gone t who r
 
 abbrev pub with_pressed : HostTable → TabTable → Focused → Bool → Key → TabTable
-with_pressed H t f ok Enter = if ok && is_entry f.spot then with_entered t (active_in t) (allowed H f.entry) else t
+with_pressed H t f ok Enter = if ok && is_entry f.spot then with_entered t (active_in t) (allowed H f.entry_line) else t
 with_pressed H t f ok key = t
 
 -- the tabs after an act, if it is accepted
@@ -190,8 +195,8 @@ jar_after t ok other o = jar_of t.jars o
 -- where keys go and what is typed after an act, if it is accepted
 abbrev pub focus_by : Option ℕ → Focused → Bool → Act → Focused
 focus_by active f ok act = record {
-  entry = entry_by (is_entry f.spot) ok act f.entry;
-  spot = spot_of (at_entry_by active ok act (is_entry f.spot));
+  entry_line = entry_line_by (is_entry f.spot) ok act f.entry_line;
+  spot = spot_of (at_entry_line_by active ok act (is_entry f.spot));
 }
 
 abbrev pub focus_after : Parts → Bool → Act → Focused
@@ -199,7 +204,7 @@ focus_after t ok act = focus_by t.tabs.active t.focus ok act
 
 -- a cell of an instance that lives after an act, if that is accepted: one that started has spaces
 abbrev pub cell_after : Parts → Bool → Act → Instance → ℕ → ℕ → ℕ
-cell_after t ok act q r c = cell_by q r c ok act (if is_live t.tabs q then content_at t.frames q r c else space)
+cell_after t ok act q r c = cell_by q r c ok act (if is_live t.tabs q then content_at t.screen q r c else space)
 
 -- the act is one after which the chrome or the instance shown may be others
 abbrev pub composes : Act → Bool
@@ -221,30 +226,30 @@ takes_none other = false
 pub record Leaves (old new : Parts) : Type 0 where
   pub tabs : new.tabs ≡ old.tabs
   pub focus : new.focus ≡ old.focus
-  pub shown : new.frames.shown ≡ old.frames.shown
-  pub chrome : new.frames.chrome ≡ old.frames.chrome
+  pub shown : new.screen.shown ≡ old.screen.shown
+  pub chrome : new.screen.chrome ≡ old.screen.chrome
 
 -- an act's outcome and the parts after it, before the screen is composed anew
 pub record Makes (old : Parts) (act : Act) (outcome : Outcome) (new : Parts) : Type 0 where
-  pub told : outcome ≡ row old act
+  pub outcome_is : outcome ≡ outcome_by old act
   pub hosts_are : new.hosts ≡ old.hosts
   pub tabs_are : new.tabs ≡ tabs_after old (is_ok outcome.head) act
   pub jars_are : (o : List ℕ) → jar_of new.jars o ≡ jar_after old (is_ok outcome.head) act o
   pub focus_is : new.focus ≡ focus_after old (is_ok outcome.head) act
-  pub lives : IsOpenWhereLive new.tabs new.frames
+  pub lives : IsOpenWhereLive new.tabs new.screen
   pub cells_are : (q : Instance) (r c : ℕ) → r < 22 → c < 80 → is_live new.tabs q ≡ true
-      → content_at new.frames q r c ≡ cell_after old (is_ok outcome.head) act q r c
+      → content_at new.screen q r c ≡ cell_after old (is_ok outcome.head) act q r c
   pub leaves : composes act ≡ false → Leaves old new
   pub denied : is_ok outcome.head ≡ false → new ≡ old
 
 -- the same, with the screen composed
 pub record Serves (old : Parts) (act : Act) (outcome : Outcome) (new : Parts) : Type 0 where
-  pub told : outcome ≡ row old act
+  pub outcome_is : outcome ≡ outcome_by old act
   pub hosts_are : new.hosts ≡ old.hosts
   pub tabs_are : new.tabs ≡ tabs_after old (is_ok outcome.head) act
   pub jars_are : (o : List ℕ) → jar_of new.jars o ≡ jar_after old (is_ok outcome.head) act o
   pub focus_is : new.focus ≡ focus_after old (is_ok outcome.head) act
   pub cells_are : (q : Instance) (r c : ℕ) → r < 22 → c < 80 → is_live new.tabs q ≡ true
-      → content_at new.frames q r c ≡ cell_after old (is_ok outcome.head) act q r c
-  pub tied : IsTied new.tabs new.frames new.focus
+      → content_at new.screen q r c ≡ cell_after old (is_ok outcome.head) act q r c
+  pub tied : IsTied new.tabs new.screen new.focus
   pub denied : is_ok outcome.head ≡ false → new ≡ old

@@ -2,7 +2,7 @@
 ghost use Rattle.std.specs.Prelude.{◌≡◌, ◌+◌, ◌-◌, ◌<◌, ◌≤◌, ◌++◌, ◌∷◌, [], length, map, take, drop, decimal};
 ghost use Rattle.arrayvec.specs.ArrayVec.{array_vec_len};
 ghost use Rattle.ibos_model.specs.Screen as spec;
-ghost use Rattle.ibos_model.specs.Screen.{state_text, bar_text, entry_text};
+ghost use Rattle.ibos_model.specs.Screen.{state_text, bar_text, entry_line_text};
 ghost use Rattle.ibos_kernel.specs.Tables.{is_entry};
 
 use arrayvec::ArrayVec;
@@ -23,7 +23,7 @@ fn push(row: &mut Row, text: &[u8])
     };
 }
 
-/// Row 0: the active instance, and where keys go.
+/// The state: which instance is active, and whether it or the entry line gets the keys.
 #[tactic(auto, unfolding(ibos_model::specs::Screen::state_text))]
 pub fn state_row(active: Option<Instance>, spot: Spot) -> Row
     ensures { result.items ≡ state_text active (is_entry spot) }
@@ -54,8 +54,8 @@ fn push_number(row: &mut Row, number: u8)
 }
 
 // A byte as the chrome shows it.
-fn shown_byte(byte: u8) -> u8
-    ensures { result ≡ spec.shown_byte byte }
+fn chrome_byte(byte: u8) -> u8
+    ensures { result ≡ spec.chrome_byte byte }
 {
     if byte >= b' ' && byte <= b'~' {
         byte
@@ -66,15 +66,15 @@ fn shown_byte(byte: u8) -> u8
 
 fn push_shown(row: &mut Row, text: &[u8])
     requires { array_vec_len row.old + length text.now ≤ 80 }
-    ensures items { row.new.items ≡ row.old.items ++ map spec.shown_byte text.now }
+    ensures items { row.new.items ≡ row.old.items ++ map spec.chrome_byte text.now }
     ensures len { array_vec_len row.new ≡ array_vec_len row.old + length text.now }
 {
     'bytes: for byte in text {
-        row.push(shown_byte(*byte));
+        row.push(chrome_byte(*byte));
     }
 }
 
-/// Row 1, the address bar: a URL, or its first 79 bytes and `>` where it has more than 80.
+/// The address bar. A URL that is too long for the row is cut, and a `>` in the last cell says so.
 #[tactic(auto, unfolding(ibos_model::specs::Screen::bar_text))]
 pub fn bar_row(url: &[u8]) -> Row
     ensures { result.items ≡ bar_text url.now }
@@ -89,10 +89,11 @@ pub fn bar_row(url: &[u8]) -> Row
     row
 }
 
-/// Row 2: the entry line, or `<` and its last 79 bytes where it has more than 80.
-#[tactic(auto, unfolding(ibos_model::specs::Screen::entry_text))]
+/// The entry line. Of a text that is too long for the row the end is seen, and a `<` in the first
+/// cell says that there is more.
+#[tactic(auto, unfolding(ibos_model::specs::Screen::entry_line_text))]
 pub fn entry_row(entry: &[u8]) -> Row
-    ensures { result.items ≡ entry_text entry.now }
+    ensures { result.items ≡ entry_line_text entry.now }
 {
     let mut row = ArrayVec::new();
     if entry.len() > COLUMNS {

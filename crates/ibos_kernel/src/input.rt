@@ -5,7 +5,7 @@ ghost use Rattle.ibos_kinds.specs.Limits.{IsKey};
 ghost use Rattle.ibos_kinds.specs.Keyboard.{key_byte};
 ghost use Rattle.ibos_kinds.specs.declared.act.Act.TheVariants.{Press, Click};
 ghost use Rattle.ibos_model.specs.Journal.{is_ok};
-ghost use Rattle.ibos_model.specs.Rows.{click_row, page_key_row};
+ghost use Rattle.ibos_model.specs.Outcomes.{click_outcome, page_key_outcome};
 ghost use Rattle.ibos_origin.specs.Pages.{allowed};
 ghost use Rattle.ibos_page.specs.Tabs.{live_at, active_in};
 ghost use Rattle.ibos_kernel.specs.Tables.{press_at, enter_at, with_pressed, with_entered, focus_by, IsBeside, Follows};
@@ -40,9 +40,11 @@ pub fn press(
     requires entry { tabs.old.active ≡ None → focus.old.spot ≡ Spot.Entry }
     requires head { out.old.head ≡ Head.Ok }
     requires items { out.old.items ≡ [] }
-    ensures told { OnOk result (out.new ≡ press_at hosts.now tabs.old focus.old key) }
-    ensures tabs { OnOk result (tabs.new ≡ with_pressed hosts.now tabs.old focus.old (is_ok out.new.head) key) }
-    ensures focus { OnOk result (focus.new ≡ focus_by tabs.old.active focus.old (is_ok out.new.head) (Press key)) }
+    ensures outcome { OnOk result (out.new ≡ press_at hosts.now tabs.old focus.old key) }
+    ensures tabs { OnOk result (tabs.new
+        ≡ with_pressed hosts.now tabs.old focus.old (is_ok out.new.head) key) }
+    ensures focus { OnOk result (focus.new
+        ≡ focus_by tabs.old.active focus.old (is_ok out.new.head) (Press key)) }
     ensures follows { OnOk result (Follows tabs.old tabs.new screen.old screen.new) }
     ensures denied { OnOk result (is_ok out.new.head ≡ false → screen.new ≡ screen.old) }
 {
@@ -62,7 +64,8 @@ pub fn press(
 fn tell_key(active: Option<Instance>, byte: u8, out: &mut Outcome) -> Result<(), Memory>
     requires head { out.old.head ≡ Head.Ok }
     requires items { out.old.items ≡ [] }
-    ensures told { OnOk result ((key : Key) → byte ≡ key_byte key → out.new ≡ page_key_row active key) }
+    ensures outcome { OnOk result ((key : Key) → byte ≡ key_byte key → out.new
+        ≡ page_key_outcome active key) }
 {
     if let Some(who) = active {
         out.push(Item::KeyTo { who, byte })?;
@@ -87,9 +90,12 @@ fn enter(
     requires beside { IsBeside tabs.old screen.old }
     requires head { out.old.head ≡ Head.Ok }
     requires items { out.old.items ≡ [] }
-    ensures told { OnOk result (out.new ≡ enter_at tabs.old active (allowed hosts.now focus.old.entry)) }
-    ensures tabs { OnOk result (tabs.new ≡ (if is_ok out.new.head then with_entered tabs.old active (allowed hosts.now focus.old.entry) else tabs.old)) }
-    ensures focus { OnOk result (focus.new ≡ (if is_ok out.new.head then record { entry = []; spot = Spot.Content } else focus.old)) }
+    ensures outcome { OnOk result (out.new
+        ≡ enter_at tabs.old active (allowed hosts.now focus.old.entry_line)) }
+    ensures tabs { OnOk result (tabs.new ≡ (if is_ok out.new.head
+        then with_entered tabs.old active (allowed hosts.now focus.old.entry_line) else tabs.old)) }
+    ensures focus { OnOk result (focus.new ≡ (if is_ok out.new.head
+        then record { entry_line = []; spot = Spot.Content } else focus.old)) }
     ensures follows { OnOk result (Follows tabs.old tabs.new screen.old screen.new) }
     ensures denied { OnOk result (is_ok out.new.head ≡ false → screen.new ≡ screen.old) }
 {
@@ -112,8 +118,9 @@ pub fn click(
 ) -> Result<(), Memory>
     requires head { out.old.head ≡ Head.Ok }
     requires items { out.old.items ≡ [] }
-    ensures told { OnOk result (out.new ≡ click_row active row col) }
-    ensures focus { OnOk result (focus.new ≡ focus_by None focus.old (is_ok out.new.head) (Click row col)) }
+    ensures outcome { OnOk result (out.new ≡ click_outcome active row col) }
+    ensures focus { OnOk result (focus.new
+        ≡ focus_by None focus.old (is_ok out.new.head) (Click row col)) }
 {
     match focus.click(row, col, active.is_some()) {
         Ok(ClickDone::Content { row, col }) => {

@@ -27,14 +27,14 @@ impl Model for Kernel {
 
     ghost Value = { Tables };
 
-    ghost view = { λ k. record { hosts = k.parts.hosts; tabs = k.parts.tabs; jars = k.parts.jars; frames = k.parts.frames; focus = k.parts.focus; acts = k.acts; usable = k.usable } };
+    ghost view = { λ k. record { hosts = k.parts.hosts; tabs = k.parts.tabs; jars = k.parts.jars; screen = k.parts.screen; focus = k.parts.focus; acts = k.acts; usable = k.usable } };
 
-    ghost invariant = { λ k. k.usable ≡ true → IsTied k.parts.tabs k.parts.frames k.parts.focus };
+    ghost invariant = { λ k. k.usable ≡ true → IsTied k.parts.tabs k.parts.screen k.parts.focus };
 }
 
 impl Kernel {
     ghost use Rattle.ibos_model.specs.Journal.{Journal, is_ok};
-    ghost use Rattle.ibos_model.specs.Rows.{out as outcome_of};
+    ghost use Rattle.ibos_model.specs.Outcomes.{out as outcome_of};
     ghost use Rattle.ibos_model.specs.Laws.{IsCarried, views};
     ghost use Rattle.ibos_model.specs.Screen.{screen};
     ghost use Rattle.ibos_kernel.specs.Tables.{takes_none};
@@ -85,11 +85,14 @@ impl Kernel {
         requires usable { self.old.usable ≡ true }
         requires acts { self.old.acts < 2 ^ 31 }
         requires fits { Fits act.now }
-        ensures outcome { OnOk result ((J : Journal) → Stands J self.old → out.new ≡ outcome_of self.old.hosts J act.now) }
-        ensures stands { OnOk result ((J : Journal) → Stands J self.old → Stands (entry act.now out.new ∷ J) self.new) }
+        ensures outcome { OnOk result ((J : Journal) → Stands J self.old → out.new
+            ≡ outcome_of self.old.hosts J act.now) }
+        ensures stands { OnOk result ((J : Journal) → Stands J self.old
+            → Stands (entry act.now out.new ∷ J) self.new) }
 
         // The head and the items to each instance are what the facts that the act adds give.
-        ensures carried { OnOk result ((J : Journal) → Stands J self.old → IsCarried self.old.hosts J (entry act.now out.new)) }
+        ensures carried { OnOk result ((J : Journal) → Stands J self.old
+            → IsCarried self.old.hosts J (entry act.now out.new)) }
 
         // A denied act leaves the kernel as it was, but for the count of acts, and so it leaves all that the
         // journal says.

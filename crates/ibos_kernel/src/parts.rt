@@ -4,7 +4,7 @@ ghost use Rattle.ibos_kinds.specs.Limits.{Fits, IsKey};
 ghost use Rattle.ibos_kinds.specs.declared.names.Instance.{Instance};
 ghost use Rattle.ibos_kinds.specs.declared.act.Act.TheVariants.{Start, Switch, Close, Press, Click, Look, Go, Draw, CookieSet, CookieGet};
 ghost use Rattle.ibos_page.specs.Tabs.{live_at, admission};
-ghost use Rattle.ibos_frame.specs.Frames.{content_of, seen_at};
+ghost use Rattle.ibos_frame.specs.ScreenStates.{content_of, seen_at};
 ghost use Rattle.ibos_model.specs.Journal.{is_ok};
 ghost use Rattle.ibos_route.specs.Parties.{admission_of};
 ghost use Rattle.ibos_kernel.specs.Tables as spec;
@@ -41,14 +41,14 @@ impl Model for Parts {
 
     ghost Value = { spec.Parts };
 
-    ghost view = { λ p. record { hosts = p.hosts; tabs = p.tabs; jars = p.jars; frames = p.screen; focus = p.focus } };
+    ghost view = { λ p. record { hosts = p.hosts; tabs = p.tabs; jars = p.jars; screen = p.screen; focus = p.focus } };
 }
 
 impl Parts {
     /// Makes one act, and fills `out`, which is as new, with its outcome.
     pub fn serve(&mut self, alloc: Global, act: &Act, out: &mut Outcome) -> Result<(), Memory>
         requires fits { Fits act.now }
-        requires tied { IsTied self.old.tabs self.old.frames self.old.focus }
+        requires tied { IsTied self.old.tabs self.old.screen self.old.focus }
         requires head { out.old.head ≡ Head.Ok }
         requires items { out.old.items ≡ [] }
         ensures serves { OnOk result (Serves self.old act.now out.new self.new) }
@@ -69,7 +69,7 @@ impl Parts {
     fn make(&mut self, alloc: Global, act: &Act, out: &mut Outcome) -> Result<(), Memory>
         requires fits { Fits act.now }
         requires admitted { admission_of self.old.tabs act.now ≡ None }
-        requires tied { IsTied self.old.tabs self.old.frames self.old.focus }
+        requires tied { IsTied self.old.tabs self.old.screen self.old.focus }
         requires head { out.old.head ≡ Head.Ok }
         requires items { out.old.items ≡ [] }
         ensures makes { OnOk result (Makes self.old act.now out.new self.new) }
@@ -111,14 +111,15 @@ impl Parts {
 
     // Writes the chrome's rows, and shows the content of the active instance.
     pub fn compose(&mut self)
-        requires open { IsOpenWhereLive self.old.tabs self.old.frames }
+        requires open { IsOpenWhereLive self.old.tabs self.old.screen }
         ensures hosts { self.new.hosts ≡ self.old.hosts }
         ensures tabs { self.new.tabs ≡ self.old.tabs }
         ensures jars { self.new.jars ≡ self.old.jars }
         ensures focus { self.new.focus ≡ self.old.focus }
-        ensures contents { (q : Instance) → content_of self.new.frames q ≡ content_of self.old.frames q }
-        ensures composed { IsComposed self.new.tabs self.new.frames self.new.focus }
-        ensures beside { IsBeside self.new.tabs self.new.frames }
+        ensures contents { (q : Instance) → content_of self.new.screen q
+            ≡ content_of self.old.screen q }
+        ensures composed { IsComposed self.new.tabs self.new.screen self.new.focus }
+        ensures beside { IsBeside self.new.tabs self.new.screen }
     {
         let active = self.tabs.active();
         self.screen.show(active);
@@ -133,7 +134,8 @@ impl Parts {
     /// What is seen of the screen.
     pub fn pixels(&self) -> &[u8]
         ensures count { length result.now ≡ 2000 }
-        ensures pixels { (r c : ℕ) → r < 25 → c < 80 → slice_index result.now (80 * r + c) ≡ seen_at self.now.frames r c }
+        ensures pixels { (r c : ℕ) → r < 25 → c < 80 → slice_index result.now (80 * r + c)
+            ≡ seen_at self.now.screen r c }
     {
         self.screen.pixels()
     }
@@ -146,7 +148,7 @@ impl Parts {
         out: &mut Outcome,
     ) -> Result<(), Memory>
         requires tab { tab < 64 }
-        requires tied { IsTied self.old.tabs self.old.frames self.old.focus }
+        requires tied { IsTied self.old.tabs self.old.screen self.old.focus }
         requires head { out.old.head ≡ Head.Ok }
         requires items { out.old.items ≡ [] }
         ensures makes { OnOk result (Makes self.old (Start tab url.now) out.new self.new) }
@@ -169,7 +171,7 @@ impl Parts {
 
     fn switch(&mut self, tab: u8, out: &mut Outcome)
         requires tab { tab < 64 }
-        requires tied { IsTied self.old.tabs self.old.frames self.old.focus }
+        requires tied { IsTied self.old.tabs self.old.screen self.old.focus }
         requires head { out.old.head ≡ Head.Ok }
         requires items { out.old.items ≡ [] }
         ensures makes { Makes self.old (Switch tab) out.new self.new }
@@ -183,7 +185,7 @@ impl Parts {
 
     fn close(&mut self, tab: u8, out: &mut Outcome) -> Result<(), Memory>
         requires tab { tab < 64 }
-        requires tied { IsTied self.old.tabs self.old.frames self.old.focus }
+        requires tied { IsTied self.old.tabs self.old.screen self.old.focus }
         requires head { out.old.head ≡ Head.Ok }
         requires items { out.old.items ≡ [] }
         ensures makes { OnOk result (Makes self.old (Close tab) out.new self.new) }
@@ -199,7 +201,7 @@ impl Parts {
 
     fn press(&mut self, alloc: Global, key: Key, out: &mut Outcome) -> Result<(), Memory>
         requires key { IsKey key }
-        requires tied { IsTied self.old.tabs self.old.frames self.old.focus }
+        requires tied { IsTied self.old.tabs self.old.screen self.old.focus }
         requires head { out.old.head ≡ Head.Ok }
         requires items { out.old.items ≡ [] }
         ensures makes { OnOk result (Makes self.old (Press key) out.new self.new) }
@@ -218,7 +220,7 @@ impl Parts {
     }
 
     fn click(&mut self, row: u32, col: u32, out: &mut Outcome) -> Result<(), Memory>
-        requires tied { IsTied self.old.tabs self.old.frames self.old.focus }
+        requires tied { IsTied self.old.tabs self.old.screen self.old.focus }
         requires head { out.old.head ≡ Head.Ok }
         requires items { out.old.items ≡ [] }
         ensures makes { OnOk result (Makes self.old (Click row col) out.new self.new) }
@@ -237,7 +239,7 @@ impl Parts {
         out: &mut Outcome,
     ) -> Result<(), Memory>
         requires admitted { admission self.old.tabs who ≡ None }
-        requires tied { IsTied self.old.tabs self.old.frames self.old.focus }
+        requires tied { IsTied self.old.tabs self.old.screen self.old.focus }
         requires head { out.old.head ≡ Head.Ok }
         requires items { out.old.items ≡ [] }
         ensures makes { OnOk result (Makes self.old (Go who url.now) out.new self.new) }
@@ -256,7 +258,7 @@ impl Parts {
     }
 }
 
-// Row 1: the URL of the active instance.
+// The address bar of the active instance, if there is one.
 fn address_row(tabs: &Tabs, active: Option<Instance>) -> Row
     requires { IfSome active (λ who. live_at tabs.now who.tab ≡ Some who) }
     ensures { result.items ≡ bar_at tabs.now active }

@@ -1,8 +1,8 @@
 // What the user sees, and what pages draw.
 ghost use Rattle.std.specs.Prelude.{◌≡◌, [], OnOk, IfOk};
-ghost use Rattle.ibos_frame.specs.Frames.{seen_at};
+ghost use Rattle.ibos_frame.specs.ScreenStates.{seen_at};
 ghost use Rattle.ibos_model.specs.Screen.{seen_row, trimmed};
-ghost use Rattle.ibos_model.specs.Rows.{look_row};
+ghost use Rattle.ibos_model.specs.Outcomes.{look_outcome};
 
 use ibos_frame::Screen;
 use ibos_kinds::{Bytes, COLUMNS, Head, Item, Memory, Outcome, SCREEN_ROWS};
@@ -12,7 +12,7 @@ use std::alloc::Global;
 pub fn look(screen: &Screen, alloc: Global, out: &mut Outcome) -> Result<(), Memory>
     requires head { out.old.head ≡ Head.Ok }
     requires items { out.old.items ≡ [] }
-    ensures told { OnOk result (out.new ≡ look_row (seen_row (seen_at screen.now))) }
+    ensures outcome { OnOk result (out.new ≡ look_outcome (seen_row (seen_at screen.now))) }
 {
     let pixels = screen.pixels();
     'rows: for row in 0..SCREEN_ROWS {

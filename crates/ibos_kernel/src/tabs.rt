@@ -1,7 +1,7 @@
 // Acts on tabs.
 ghost use Rattle.std.specs.Prelude.{◌≡◌, ◌<◌, [], false, Some, Ok, Err, OnOk, is_some, if◌then◌else◌};
 ghost use Rattle.ibos_model.specs.Journal.{is_ok};
-ghost use Rattle.ibos_model.specs.Rows.{accepted, denied, close_row};
+ghost use Rattle.ibos_model.specs.Outcomes.{accepted, denied, close_outcome};
 ghost use Rattle.ibos_origin.specs.Pages.{allowed};
 ghost use Rattle.ibos_page.specs.Tabs.{seat_at, live_at, start_in, closed, with_seat, without};
 ghost use Rattle.ibos_kernel.specs.Tables.{started_by, with_started, go_at, with_gone, IsBeside, Follows};
@@ -26,8 +26,10 @@ pub fn start(
     requires beside { IsBeside tabs.old screen.old }
     requires head { out.old.head ≡ Head.Ok }
     requires items { out.old.items ≡ [] }
-    ensures told { OnOk result (out.new ≡ started_by (start_in tabs.old tab) (allowed hosts.now url.now)) }
-    ensures tabs { OnOk result (tabs.new ≡ (if is_ok out.new.head then with_started tabs.old tab (allowed hosts.now url.now) else tabs.old)) }
+    ensures outcome { OnOk result (out.new
+        ≡ started_by (start_in tabs.old tab) (allowed hosts.now url.now)) }
+    ensures tabs { OnOk result (tabs.new ≡ (if is_ok out.new.head
+        then with_started tabs.old tab (allowed hosts.now url.now) else tabs.old)) }
     ensures follows { OnOk result (Follows tabs.old tabs.new screen.old screen.new) }
     ensures denied { OnOk result (is_ok out.new.head ≡ false → screen.new ≡ screen.old) }
 {
@@ -59,8 +61,10 @@ pub fn switch(tabs: &mut Tabs, tab: u8, out: &mut Outcome)
     requires tab { tab < 64 }
     requires head { out.old.head ≡ Head.Ok }
     requires items { out.old.items ≡ [] }
-    ensures told { out.new ≡ (if is_some (seat_at tabs.old tab).page then accepted [] else denied Rule.U2) }
-    ensures tabs { tabs.new ≡ (if is_ok out.new.head then record tabs.old { active = Some tab } else tabs.old) }
+    ensures outcome { out.new ≡ (if is_some (seat_at tabs.old tab).page then accepted []
+        else denied Rule.U2) }
+    ensures tabs { tabs.new ≡ (if is_ok out.new.head then record tabs.old { active = Some tab }
+        else tabs.old) }
 {
     if let Err(rule) = tabs.switch(tab) {
         out.head = Head::Denied(rule);
@@ -73,8 +77,10 @@ pub fn close(tabs: &mut Tabs, screen: &mut Screen, tab: u8, out: &mut Outcome) -
     requires beside { IsBeside tabs.old screen.old }
     requires head { out.old.head ≡ Head.Ok }
     requires items { out.old.items ≡ [] }
-    ensures told { OnOk result (out.new ≡ close_row (live_at tabs.old tab)) }
-    ensures tabs { OnOk result (tabs.new ≡ (if is_ok out.new.head then record (with_seat tabs.old tab (closed (seat_at tabs.old tab))) { active = without tab tabs.old.active } else tabs.old)) }
+    ensures outcome { OnOk result (out.new ≡ close_outcome (live_at tabs.old tab)) }
+    ensures tabs { OnOk result (tabs.new ≡ (if is_ok out.new.head
+        then record (with_seat tabs.old tab (closed (seat_at tabs.old tab)))
+        { active = without tab tabs.old.active } else tabs.old)) }
     ensures follows { OnOk result (Follows tabs.old tabs.new screen.old screen.new) }
     ensures denied { OnOk result (is_ok out.new.head ≡ false → screen.new ≡ screen.old) }
 {
@@ -105,8 +111,9 @@ pub fn go(
     requires beside { IsBeside tabs.old screen.old }
     requires head { out.old.head ≡ Head.Ok }
     requires items { out.old.items ≡ [] }
-    ensures told { OnOk result (out.new ≡ go_at tabs.old who (allowed hosts.now url.now)) }
-    ensures tabs { OnOk result (tabs.new ≡ (if is_ok out.new.head then with_gone tabs.old who (allowed hosts.now url.now) else tabs.old)) }
+    ensures outcome { OnOk result (out.new ≡ go_at tabs.old who (allowed hosts.now url.now)) }
+    ensures tabs { OnOk result (tabs.new ≡ (if is_ok out.new.head
+        then with_gone tabs.old who (allowed hosts.now url.now) else tabs.old)) }
     ensures follows { OnOk result (Follows tabs.old tabs.new screen.old screen.new) }
     ensures denied { OnOk result (is_ok out.new.head ≡ false → screen.new ≡ screen.old) }
 {
@@ -137,8 +144,9 @@ fn go_to(
     requires url { url ≡ page.url }
     requires head { out.old.head ≡ Head.Ok }
     requires items { out.old.items ≡ [] }
-    ensures told { OnOk result (out.new ≡ go_at tabs.old who (Ok page)) }
-    ensures tabs { OnOk result (tabs.new ≡ (if is_ok out.new.head then with_gone tabs.old who (Ok page) else tabs.old)) }
+    ensures outcome { OnOk result (out.new ≡ go_at tabs.old who (Ok page)) }
+    ensures tabs { OnOk result (tabs.new ≡ (if is_ok out.new.head
+        then with_gone tabs.old who (Ok page) else tabs.old)) }
     ensures follows { OnOk result (Follows tabs.old tabs.new screen.old screen.new) }
     ensures denied { OnOk result (is_ok out.new.head ≡ false → screen.new ≡ screen.old) }
 {

@@ -12,12 +12,12 @@ key_byte Enter = 0x0a
 key_byte Back = 0x08
 
 -- the entry line holds so many bytes
-abbrev pub entry_limit : ℕ
-entry_limit = 1024
+abbrev pub max_entry_bytes : ℕ
+max_entry_bytes = 1024
 
 -- a byte that finds no room in the entry line is refused
 abbrev pub key_breaks : List ℕ → Key → Option Rule
-key_breaks entry (Byte byte) = if nat_lt (length entry) entry_limit then None else Some U11
+key_breaks entry (Byte byte) = if nat_lt (length entry) max_entry_bytes then None else Some U11
 key_breaks entry Enter = None
 key_breaks entry Back = None
 

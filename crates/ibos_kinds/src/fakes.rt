@@ -15,8 +15,9 @@ pub struct File {
     pub bytes: Bytes,
 }
 
-/// Files in memory. A read fails exactly where its number is listed or its name is not held; it then
-/// raises the count of the held names or that of the others.
+/// A cabinet for tests, whose files lie in memory. Its reads are numbered, and fail if their number
+/// was picked for that; a read of a file that isn't there fails too. Failures are counted apart for
+/// files that are there and for those that aren't.
 #[derive(Drop)]
 pub struct MemCabinet {
     files: Vec<File>,
@@ -60,9 +61,10 @@ impl MemCabinet {
         }
     }
 
-    /// Adds a file, which hides an earlier one of its name.
+    /// Puts in a file; of two with one name the later is read.
     pub fn put(&mut self, name: Bytes, bytes: Bytes) -> Result<(), Memory>
-        ensures ok { OnOk result (self.new ≡ record self.old { files = record { name = name; bytes = bytes } ∷ self.old.files }) }
+        ensures ok { OnOk result (self.new
+            ≡ record self.old { files = record { name = name; bytes = bytes } ∷ self.old.files }) }
         ensures err { OnErr result (self.new ≡ self.old) }
     {
         match self.files.insert(0, File { name, bytes }) {
@@ -71,7 +73,7 @@ impl MemCabinet {
         }
     }
 
-    /// Bounds how many bytes one read gives.
+    /// From now on a read gives so many bytes at most.
     pub fn piece(&mut self, most: u32)
         requires { 0 < most }
         ensures { self.new ≡ record self.old { most = most } }
@@ -79,9 +81,12 @@ impl MemCabinet {
         self.most = most;
     }
 
-    /// Makes the read with that number fail, counted from 0 over all reads of this cabinet.
+    /// Picks a read that will fail; the cabinet's first is number 0.
     pub fn fail(&mut self, call: u32) -> Result<(), Memory>
-        ensures ok { OnOk result (self.new ≡ record self.old { fails = self.old.fails ++ call ∷ [] }) }
+        ensures ok { OnOk result (self.new ≡ record self.old {
+          fails = self.old.fails
+              ++ call ∷ [];
+        }) }
         ensures err { OnErr result (self.new ≡ self.old) }
     {
         match self.fails.push(call) {
@@ -102,15 +107,19 @@ impl Cabinet for MemCabinet {
 
     fn read_at(&mut self, name: &Bytes, place: u64, into: &mut [u8]) -> Result<usize, Failed>
         ensures within { IfOk result (λ got. got ≤ length into.new) }
-        ensures bytes { IfOk result (λ got. IfSome (file_named self.old.files name.now) (λ file. ReadsFrom file place got into.new)) }
-        ensures holds { (name : List ℕ) → file_named self.new.files name ≡ file_named self.old.files name }
+        ensures bytes { IfOk result (λ got. IfSome (file_named self.old.files name.now)
+            (λ file. ReadsFrom file place got into.new)) }
+        ensures holds { (name : List ℕ) → file_named self.new.files name
+            ≡ file_named self.old.files name }
         ensures later { (name : List ℕ) → faults_of self.old name ≤ faults_of self.new name }
         ensures cause { HasCause (faults_of self.old name.now) (faults_of self.new name.now) result }
 
         // Exactly which reads fail, how much the others give, and what a read changes.
         ensures after { self.new ≡ after_read self.old name.now result }
-        ensures fails { IsErr result ↔ (Contains self.old.fails self.old.calls ⊎ (file_named self.old.files name.now ≡ None)) }
-        ensures count { IfOk result (λ got. IfSome (file_named self.old.files name.now) (λ file. got ≡ min (min (length into.old) self.old.most) (length file - place))) }
+        ensures fails { IsErr result ↔ (Contains self.old.fails self.old.calls
+            ⊎ (file_named self.old.files name.now ≡ None)) }
+        ensures count { IfOk result (λ got. IfSome (file_named self.old.files name.now)
+            (λ file. got ≡ min (min (length into.old) self.old.most) (length file - place))) }
     {
         let is_listed = is_listed(&self.fails, self.calls);
         self.calls = self.calls.saturating_add(1);
@@ -128,8 +137,8 @@ impl Cabinet for MemCabinet {
     }
 }
 
-/// A sink in memory. A write fails exactly where its number is listed, or the piece is not empty and no
-/// room is left. It takes no memory.
+/// A sink for tests, which keeps what it takes in memory that it has from the start. A write fails
+/// if its number was picked for that, or if there is something to write and the memory is full.
 #[derive(Drop)]
 pub struct MemSink {
     bytes: Vec<u8>,
@@ -159,7 +168,7 @@ impl Model for MemSink {
 }
 
 impl MemSink {
-    /// Empty, with room for that many bytes.
+    /// Nothing is taken yet, and there is memory for so many bytes.
     pub fn new(alloc: Global, room: usize) -> Result<MemSink, Memory>
         ensures { IfOk result (λ sink. sink ≡ no_bytes room) }
     {
@@ -175,7 +184,7 @@ impl MemSink {
         })
     }
 
-    /// Bounds how many bytes one write takes.
+    /// From now on a write takes so many bytes at most.
     pub fn piece(&mut self, most: u32)
         requires { 0 < most }
         ensures { self.new ≡ record self.old { most = most } }
@@ -183,9 +192,12 @@ impl MemSink {
         self.most = most;
     }
 
-    /// Makes the write with that number fail, counted from 0.
+    /// Picks a write that will fail; the sink's first is number 0.
     pub fn fail(&mut self, call: u32) -> Result<(), Memory>
-        ensures ok { OnOk result (self.new ≡ record self.old { fails = self.old.fails ++ call ∷ [] }) }
+        ensures ok { OnOk result (self.new ≡ record self.old {
+          fails = self.old.fails
+              ++ call ∷ [];
+        }) }
         ensures err { OnErr result (self.new ≡ self.old) }
     {
         match self.fails.push(call) {
@@ -212,13 +224,16 @@ impl Sink for MemSink {
 
     fn write(&mut self, bytes: &[u8]) -> Result<usize, Failed>
         ensures front { IfOk result (TakesFront (length bytes.now)) }
-        ensures taken { Some self.new.bytes ≡ taken_after (Some self.old.bytes) (front_taken result bytes.now) }
+        ensures taken { Some self.new.bytes
+            ≡ taken_after (Some self.old.bytes) (front_taken result bytes.now) }
         ensures cause { HasCause self.old.faults self.new.faults result }
 
         // Exactly which writes fail, how much the others take, and what a write changes.
         ensures after { self.new ≡ after_write self.old bytes.now result }
-        ensures fails { IsErr result ↔ (Contains self.old.fails self.old.calls ⊎ ((0 < length bytes.now) × (self.old.room ≡ 0))) }
-        ensures count { IfOk result (λ took. took ≡ min (min (length bytes.now) self.old.most) self.old.room) }
+        ensures fails { IsErr result ↔ (Contains self.old.fails self.old.calls
+            ⊎ ((0 < length bytes.now) × (self.old.room ≡ 0))) }
+        ensures count { IfOk result (λ took. took
+            ≡ min (min (length bytes.now) self.old.most) self.old.room) }
     {
         let is_listed = is_listed(&self.fails, self.calls);
         self.calls = self.calls.saturating_add(1);

@@ -22,7 +22,8 @@ pub trait Cabinet {
     /// many. No byte for a slice that isn't empty is the end of the file.
     fn read_at(&mut self, name: &Bytes, place: u64, into: &mut [u8]) -> Result<usize, Failed>
         ensures within { IfOk result (λ got. got ≤ length into.new) }
-        ensures bytes { IfOk result (λ got. IfSome (holds self.old name.now) (λ file. ReadsFrom file place got into.new)) }
+        ensures bytes { IfOk result (λ got. IfSome (holds self.old name.now)
+            (λ file. ReadsFrom file place got into.new)) }
         ensures holds { (name : List ℕ) → holds self.new name ≡ holds self.old name }
         ensures later { (name : List ℕ) → faults self.old name ≤ faults self.new name }
         ensures cause { HasCause (faults self.old name.now) (faults self.new name.now) result };
@@ -40,6 +41,7 @@ pub trait Sink {
     /// takes none.
     fn write(&mut self, bytes: &[u8]) -> Result<usize, Failed>
         ensures front { IfOk result (TakesFront (length bytes.now)) }
-        ensures taken { taken self.new ≡ taken_after (taken self.old) (front_taken result bytes.now) }
+        ensures taken { taken self.new
+            ≡ taken_after (taken self.old) (front_taken result bytes.now) }
         ensures cause { HasCause (faults self.old) (faults self.new) result };
 }

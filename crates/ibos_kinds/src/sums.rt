@@ -12,7 +12,8 @@ pub fn sum_words(start: u16, bytes: &[u8]) -> u16
     ensures value { result ≡ sum_words start bytes.now }
 
     // A sum may be taken in parts, each but the last of an even number of bytes.
-    ensures parts { (first : ℕ) (front : List ℕ) → length front % 2 ≡ 0 → start ≡ sum_words first front
+    ensures parts { (first : ℕ) (front : List ℕ) → length front % 2 ≡ 0 → start
+        ≡ sum_words first front
         → result ≡ sum_words first (front ++ bytes.now) }
 {
     let mut total = start;

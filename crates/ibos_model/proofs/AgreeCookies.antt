@@ -13,13 +13,13 @@ use Rattle.ibos_origin.specs.Pages.{Page}
 use Rattle.ibos_model.specs.Journal.{Journal, is_ok, is_accepted, same}
 use Rattle.ibos_model.specs.Tabs.{tabs, Life, Unborn, Alive, Gone, life_with, life_of, origin_of, origin_with}
 use Rattle.ibos_model.specs.Jars.{with_set, jar, sets_of}
-use Rattle.ibos_model.specs.Rows.{admitted, answer, set_row, get_row, out}
+use Rattle.ibos_model.specs.Outcomes.{admitted, answer, set_outcome, get_outcome, out}
 use Rattle.ibos_model.specs.Facts.{OtherSet, when, Suits}
 use Rattle.ibos_model.specs.Gives.{Mine, gives_from, mine_from}
 use Rattle.ibos_model.specs.Delivered.{told}
-use Rattle.ibos_model.proofs.Folds.{same-true, bytes_eq-refl, and-true}
+use Rattle.ibos_model.proofs.Equalities.{same-true, bytes_eq-refl, and-true}
 use Rattle.ibos_kinds.specs.Cookies.{set_breaks}
-use Rattle.ibos_model.proofs.Agrees.{mine_of, Agrees, entry, answers, admit_same, told_own}
+use Rattle.ibos_model.proofs.EntriesAgree.{mine_of, Agrees, entry, answers, admit_same, told_own}
 
 -- ---- cookies
 
@@ -28,22 +28,22 @@ pub no_items : (broken : Option Rule) → (answer broken).items ≡ []
 no_items None = refl
 no_items (Some rule) = refl
 
-set_row_items : (text : List ℕ) (sets : List Cookie) → (set_row text sets).items ≡ []
+set_row_items : (text : List ℕ) (sets : List Cookie) → (set_outcome text sets).items ≡ []
 set_row_items text sets = no_items (set_breaks text (jar sets))
 
-other_set_told : (p who : Instance) (life : Life) (text : List ℕ) (sets : List Cookie) → told (PageOf p) (admitted life (set_row text sets)).items ≡ []
+other_set_told : (p who : Instance) (life : Life) (text : List ℕ) (sets : List Cookie) → told (PageOf p) (admitted life (set_outcome text sets)).items ≡ []
 other_set_told p who Unborn text sets = refl
 other_set_told p who Gone text sets = refl
 other_set_told p who Alive text sets = ap (told (PageOf p)) (set_row_items text sets)
 
-other_get_told : (p who : Instance) (life : Life) (sets : List Cookie) → same who p ≡ false → told (PageOf p) (admitted life (get_row who sets)).items ≡ []
+other_get_told : (p who : Instance) (life : Life) (sets : List Cookie) → same who p ≡ false → told (PageOf p) (admitted life (get_outcome who sets)).items ≡ []
 other_get_told p who Unborn sets differ = refl
 other_get_told p who Gone sets differ = refl
 other_get_told p who Alive sets differ = grind (arith, nat_tests)
 
 counts_own : (o text : List ℕ) (sets : List ℕ → List Cookie) (page : Option Page) (gone : Bool) → (life_with page gone ≢ Unborn → origin_with page ≡ o)
-    → (is_ok (admitted (life_with page gone) (set_row text (sets (origin_with page)))).head && bytes_eq (origin_with page) o)
-    ≡ is_ok (admitted (life_with page gone) (set_row text (sets o))).head
+    → (is_ok (admitted (life_with page gone) (set_outcome text (sets (origin_with page)))).head && bytes_eq (origin_with page) o)
+    ≡ is_ok (admitted (life_with page gone) (set_outcome text (sets o))).head
 counts_own o text sets None gone suits = refl
 counts_own o text sets (Some page) true suits = refl
 counts_own o text sets (Some page) false suits =
@@ -66,7 +66,7 @@ set_agrees H p o J side who text w suits true own =
     let here : who ≡ p = same-true who p own in
     record {
       told = rw own (told_own H p o (mine_of H p o J) (CookieSet side who text) (out H J (CookieSet side who text))
-          (ap (answers p) (ap (λ q. out H J (CookieSet side q text)) here ∙ admit_same o (λ origin. set_row text (sets_of H J origin)) ((tabs H J).page p) ((tabs H J).is_gone p) suits)));
+          (ap (answers p) (ap (λ q. out H J (CookieSet side q text)) here ∙ admit_same o (λ origin. set_outcome text (sets_of H J origin)) ((tabs H J).page p) ((tabs H J).is_gone p) suits)));
       mine = rw (own, here) (ap (λ counts. record { life = life_of H J p; sets = with_set counts text (sets_of H J o) })
           (counts_own o text (sets_of H J) ((tabs H J).page p) ((tabs H J).is_gone p) suits));
     }
@@ -84,7 +84,7 @@ get_agrees H p o J side who w suits true own =
     let here : who ≡ p = same-true who p own in
     record {
       told = rw own (told_own H p o (mine_of H p o J) (CookieGet side who) (out H J (CookieGet side who))
-          (ap (answers p) (ap (λ q. admitted (life_of H J q) (get_row who (sets_of H J (origin_of H J q)))) here ∙ admit_same o (λ origin. get_row who (sets_of H J origin)) ((tabs H J).page p) ((tabs H J).is_gone p) suits)));
+          (ap (answers p) (ap (λ q. admitted (life_of H J q) (get_outcome who (sets_of H J (origin_of H J q)))) here ∙ admit_same o (λ origin. get_outcome who (sets_of H J origin)) ((tabs H J).page p) ((tabs H J).is_gone p) suits)));
       mine = rw own refl;
     }
 get_agrees H p o J side who w suits false other = record {

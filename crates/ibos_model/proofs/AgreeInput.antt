@@ -20,14 +20,14 @@ use Rattle.ibos_model.specs.Focus.{focus_of, is_active}
 use Rattle.ibos_model.specs.Tabs.{Tabs, Change, tabs, Life, Unborn, Alive, Gone, changed_by, entering, if_ok, life_of, active_of}
 use Rattle.ibos_model.specs.Jars.{sets_of}
 use Rattle.ibos_model.specs.Screen.{screen, seen_row}
-use Rattle.ibos_model.specs.Rows.{accepted, denied, admitted, answer, page_key_row, enter_row, content_click_row, rows_from, draw_row, out}
+use Rattle.ibos_model.specs.Outcomes.{accepted, denied, admitted, answer, page_key_outcome, enter_outcome, content_click_outcome, rows_from, draw_outcome, out}
 use Rattle.ibos_model.specs.Facts.{Fact, KeyHit, ClickHit, when, change_facts}
 use Rattle.ibos_model.specs.Gives.{Mine, gives_from, mine_from}
 use Rattle.ibos_model.specs.Delivered.{told}
-use Rattle.ibos_model.proofs.Folds.{same-true}
-use Rattle.ibos_model.proofs.Due.{IsSound, AllowsAll, changes_allowed}
-use Rattle.ibos_model.proofs.Changes.{item_of, mine_in, changes_told}
-use Rattle.ibos_model.proofs.Agrees.{mine_of, Agrees, answers, entry, told_own}
+use Rattle.ibos_model.proofs.Equalities.{same-true}
+use Rattle.ibos_model.proofs.ChangesDue.{IsSound, AllowsAll, changes_allowed}
+use Rattle.ibos_model.proofs.ChangesTold.{item_of, mine_in, changes_told}
+use Rattle.ibos_model.proofs.EntriesAgree.{mine_of, Agrees, answers, entry, told_own}
 use Rattle.ibos_model.proofs.AgreeCookies.{no_items}
 
 -- ---- keys
@@ -43,23 +43,23 @@ key_mine H o m true byte = refl
 key_mine H o m false byte = refl
 
 key_told : (H : HostTable) (p : Instance) (o : List ℕ) (m : Mine) (active : Option Instance) (key : Key)
-    → told (PageOf p) (page_key_row active key).items ≡ gives_from H p o m (when (is_ok (page_key_row active key).head && (true && is_active p active)) (KeyHit (key_byte key)) ++ [])
+    → told (PageOf p) (page_key_outcome active key).items ≡ gives_from H p o m (when (is_ok (page_key_outcome active key).head && (true && is_active p active)) (KeyHit (key_byte key)) ++ [])
 key_told H p o m None key = refl
 key_told H p o m (Some who) key = grind (arith, nat_tests, same-true who p)
 
 enter_items : (t : Tabs) (active : Option Instance) (r : Result Page Rule)
-    → (enter_row t active r).items ≡ map item_of (if_ok (is_ok (enter_row t active r).head && true) (entering t active r))
+    → (enter_outcome t active r).items ≡ map item_of (if_ok (is_ok (enter_outcome t active r).head && true) (entering t active r))
 enter_items t None r = refl
 enter_items t (Some who) (Err rule) = refl
 enter_items t (Some who) (Ok page) = grind (arith, nat_tests)
 
 -- what a key gives and what is counted after it, where it has this outcome and makes these changes
-record Pressed (H : HostTable) (p : Instance) (o : List ℕ) (t : Tabs) (sets : List Cookie) (active : Option Instance) (at_entry : Bool) (key : Key) (outcome : Outcome) (cs : List Change) : Type 0 where
-  told : told (PageOf p) outcome.items ≡ gives_from H p o (mine_in t p sets) (when (is_ok outcome.head && (not at_entry && is_active p active)) (KeyHit (key_byte key)) ++ change_facts p false cs)
-  mine : mine_in (changed_by t cs) p sets ≡ mine_from H o (mine_in t p sets) (when (is_ok outcome.head && (not at_entry && is_active p active)) (KeyHit (key_byte key)) ++ change_facts p false cs)
+record Pressed (H : HostTable) (p : Instance) (o : List ℕ) (t : Tabs) (sets : List Cookie) (active : Option Instance) (at_entry_line : Bool) (key : Key) (outcome : Outcome) (cs : List Change) : Type 0 where
+  told : told (PageOf p) outcome.items ≡ gives_from H p o (mine_in t p sets) (when (is_ok outcome.head && (not at_entry_line && is_active p active)) (KeyHit (key_byte key)) ++ change_facts p false cs)
+  mine : mine_in (changed_by t cs) p sets ≡ mine_from H o (mine_in t p sets) (when (is_ok outcome.head && (not at_entry_line && is_active p active)) (KeyHit (key_byte key)) ++ change_facts p false cs)
 
 to_page : (H : HostTable) (p : Instance) (o : List ℕ) (t : Tabs) (sets : List Cookie) (active : Option Instance) (key : Key)
-    → Pressed H p o t sets active false key (page_key_row active key) []
+    → Pressed H p o t sets active false key (page_key_outcome active key) []
 to_page H p o t sets active key = record {
   told = key_told H p o (mine_in t p sets) active key;
   mine = key_mine H o (mine_in t p sets) _ (key_byte key);
@@ -73,11 +73,11 @@ typed_in H p o t sets active key broken = record {
 }
 
 entered_page : (H : HostTable) (p : Instance) (o : List ℕ) (t : Tabs) (sets : List Cookie) (active : Option Instance) (r : Result Page Rule) → IsSound t
-    → AllowsAll H t (if_ok (is_ok (enter_row t active r).head && true) (entering t active r))
-    → Pressed H p o t sets active true Enter (enter_row t active r) (if_ok (is_ok (enter_row t active r).head && true) (entering t active r))
+    → AllowsAll H t (if_ok (is_ok (enter_outcome t active r).head && true) (entering t active r))
+    → Pressed H p o t sets active true Enter (enter_outcome t active r) (if_ok (is_ok (enter_outcome t active r).head && true) (entering t active r))
 entered_page H p o t sets active r sound allowed =
-    let law = changes_told H p o t sets (if_ok (is_ok (enter_row t active r).head && true) (entering t active r)) sound allowed in
-    let none = no_hit (is_ok (enter_row t active r).head) (is_active p active) (KeyHit (key_byte Enter)) in
+    let law = changes_told H p o t sets (if_ok (is_ok (enter_outcome t active r).head && true) (entering t active r)) sound allowed in
+    let none = no_hit (is_ok (enter_outcome t active r).head) (is_active p active) (KeyHit (key_byte Enter)) in
     record {
       told = rw none (ap (told (PageOf p)) (enter_items t active r) ∙ law.0);
       mine = rw none law.1;
@@ -88,30 +88,30 @@ no_changes : (ok : Bool) (cs : List Change) → if_ok (ok && false) cs ≡ []
 no_changes true cs = refl
 no_changes false cs = refl
 
-entered_at : (H : HostTable) (p : Instance) (o : List ℕ) (t : Tabs) (sets : List Cookie) (active : Option Instance) (r : Result Page Rule) (at_entry : Bool) → IsSound t
-    → AllowsAll H t (if_ok (is_ok (if at_entry then enter_row t active r else page_key_row active Enter).head && at_entry) (entering t active r))
-    → Pressed H p o t sets active at_entry Enter (if at_entry then enter_row t active r else page_key_row active Enter)
-    (if_ok (is_ok (if at_entry then enter_row t active r else page_key_row active Enter).head && at_entry) (entering t active r))
+entered_at : (H : HostTable) (p : Instance) (o : List ℕ) (t : Tabs) (sets : List Cookie) (active : Option Instance) (r : Result Page Rule) (at_entry_line : Bool) → IsSound t
+    → AllowsAll H t (if_ok (is_ok (if at_entry_line then enter_outcome t active r else page_key_outcome active Enter).head && at_entry_line) (entering t active r))
+    → Pressed H p o t sets active at_entry_line Enter (if at_entry_line then enter_outcome t active r else page_key_outcome active Enter)
+    (if_ok (is_ok (if at_entry_line then enter_outcome t active r else page_key_outcome active Enter).head && at_entry_line) (entering t active r))
 entered_at H p o t sets active r true sound allowed = entered_page H p o t sets active r sound allowed
 entered_at H p o t sets active r false sound allowed =
-    let P : List Change → Type 0 = Pressed H p o t sets active false Enter (page_key_row active Enter) in
-    subst P (sym (no_changes (is_ok (page_key_row active Enter).head) (entering t active r))) (to_page H p o t sets active Enter)
+    let P : List Change → Type 0 = Pressed H p o t sets active false Enter (page_key_outcome active Enter) in
+    subst P (sym (no_changes (is_ok (page_key_outcome active Enter).head) (entering t active r))) (to_page H p o t sets active Enter)
 
-typed_at : (H : HostTable) (p : Instance) (o : List ℕ) (t : Tabs) (sets : List Cookie) (active : Option Instance) (key : Key) (broken : Option Rule) (at_entry : Bool)
-    → Pressed H p o t sets active at_entry key (if at_entry then answer broken else page_key_row active key) []
+typed_at : (H : HostTable) (p : Instance) (o : List ℕ) (t : Tabs) (sets : List Cookie) (active : Option Instance) (key : Key) (broken : Option Rule) (at_entry_line : Bool)
+    → Pressed H p o t sets active at_entry_line key (if at_entry_line then answer broken else page_key_outcome active key) []
 typed_at H p o t sets active key broken true = typed_in H p o t sets active key broken
 typed_at H p o t sets active key broken false = to_page H p o t sets active key
 
 pub press_agrees : (H : HostTable) (p : Instance) (o : List ℕ) (J : Journal) (key : Key) (w : List ℕ) → IsSound (tabs H J) → Agrees H p o J (entry H J (Press key) w)
 unfolding tabs sets_of
 press_agrees H p o J (Byte byte) w sound =
-    let is = typed_at H p o (tabs H J) (sets_of H J o) (active_of H J) (Byte byte) (key_breaks (focus_of J).entry (Byte byte)) (focus_of J).at_entry in
+    let is = typed_at H p o (tabs H J) (sets_of H J o) (active_of H J) (Byte byte) (key_breaks (focus_of J).entry_line (Byte byte)) (focus_of J).at_entry_line in
     record { told = is.told; mine = is.mine }
 press_agrees H p o J Back w sound =
-    let is = typed_at H p o (tabs H J) (sets_of H J o) (active_of H J) Back None (focus_of J).at_entry in
+    let is = typed_at H p o (tabs H J) (sets_of H J o) (active_of H J) Back None (focus_of J).at_entry_line in
     record { told = is.told; mine = is.mine }
 press_agrees H p o J Enter w sound =
-    let is = entered_at H p o (tabs H J) (sets_of H J o) (active_of H J) (allowed H (focus_of J).entry) (focus_of J).at_entry sound (changes_allowed H J (Press Enter) sound) in
+    let is = entered_at H p o (tabs H J) (sets_of H J o) (active_of H J) (allowed H (focus_of J).entry_line) (focus_of J).at_entry_line sound (changes_allowed H J (Press Enter) sound) in
     record { told = is.told; mine = is.mine }
 
 -- ---- clicks
@@ -121,8 +121,8 @@ click_mine H o m true row col = refl
 click_mine H o m false row col = refl
 
 clicked_told : (H : HostTable) (p : Instance) (o : List ℕ) (m : Mine) (active : Option Instance) (row col : ℕ) (off low : Bool)
-    → told (PageOf p) (if off then denied U12 else if low then accepted [] else content_click_row active row col).items
-    ≡ gives_from H p o m (when (is_ok (if off then denied U12 else if low then accepted [] else content_click_row active row col).head && (not low && is_active p active)) (ClickHit row col) ++ [])
+    → told (PageOf p) (if off then denied U12 else if low then accepted [] else content_click_outcome active row col).items
+    ≡ gives_from H p o m (when (is_ok (if off then denied U12 else if low then accepted [] else content_click_outcome active row col).head && (not low && is_active p active)) (ClickHit row col) ++ [])
 clicked_told H p o m active row col true low = refl
 clicked_told H p o m active row col false true = refl
 clicked_told H p o m None row col false false = refl
@@ -159,7 +159,7 @@ draw_agrees H p o J who row col height width pixels w true own =
     let here : who ≡ p = same-true who p own in
     record {
       told = rw own (told_own H p o (mine_of H p o J) (Draw who row col height width pixels) (out H J (Draw who row col height width pixels))
-          (ap (λ q. answers p (admitted (life_of H J q) (draw_row row col height width pixels))) here));
+          (ap (λ q. answers p (admitted (life_of H J q) (draw_outcome row col height width pixels))) here));
       mine = rw own refl;
     }
 draw_agrees H p o J who row col height width pixels w false other = record {

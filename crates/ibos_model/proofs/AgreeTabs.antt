@@ -14,34 +14,34 @@ use Rattle.ibos_model.specs.Journal.{Journal, is_ok, same}
 use Rattle.ibos_model.specs.Focus.{focus_of}
 use Rattle.ibos_model.specs.Tabs.{Tabs, tabs, Opens, Moves, Ends, Life, Unborn, Alive, Gone, changes, changed_by, opening, end, leave, if_ok, next_in, life_with, life_of, origin_in, origin_with}
 use Rattle.ibos_model.specs.Jars.{sets_of}
-use Rattle.ibos_model.specs.Rows.{accepted, denied, admitted, open_row, start_row, switch_row, close_row, go_row, out}
+use Rattle.ibos_model.specs.Outcomes.{accepted, denied, admitted, open_outcome, start_outcome, switch_outcome, close_outcome, go_outcome, out}
 use Rattle.ibos_model.specs.Facts.{change_facts, Suits}
 use Rattle.ibos_model.specs.Gives.{own_out, own_after, life_after_go}
 use Rattle.ibos_model.specs.Delivered.{told}
-use Rattle.ibos_model.proofs.Folds.{same-true, same-refl}
-use Rattle.ibos_model.proofs.Due.{IsSound, changes_allowed}
-use Rattle.ibos_model.proofs.Changes.{item_of, mine_in, mine_with, changes_told}
+use Rattle.ibos_model.proofs.Equalities.{same-true, same-refl}
+use Rattle.ibos_model.proofs.ChangesDue.{IsSound, changes_allowed}
+use Rattle.ibos_model.proofs.ChangesTold.{item_of, mine_in, mine_with, changes_told}
 use Rattle.std.specs.Prelude.{nat_lt}
 use Rattle.ibos_kinds.specs.declared.rule.Rule.TheVariants.{U3}
-use Rattle.ibos_model.proofs.Agrees.{mine_of, Agrees, entry, answers, told_own}
+use Rattle.ibos_model.proofs.EntriesAgree.{mine_of, Agrees, entry, answers, told_own}
 
 -- ---- acts that change tabs, and are not of the instance
 
-start_items : (live : Option Instance) (t : Tabs) (tab : ℕ) (r : Result Page Rule) → (start_row live (next_in t tab) r).items ≡ map item_of (if_ok (is_ok (start_row live (next_in t tab) r).head) (opening t tab r))
+start_items : (live : Option Instance) (t : Tabs) (tab : ℕ) (r : Result Page Rule) → (start_outcome live (next_in t tab) r).items ≡ map item_of (if_ok (is_ok (start_outcome live (next_in t tab) r).head) (opening t tab r))
 start_items (Some who) t tab r = refl
 start_items None t tab r = by_room (nat_lt (t.count tab) 32) r
   where
-    by_room : (room : Bool) (r : Result Page Rule) → (if room then open_row (next_in t tab) r else denied U3).items ≡ map item_of (if_ok (is_ok (if room then open_row (next_in t tab) r else denied U3).head) (opening t tab r))
+    by_room : (room : Bool) (r : Result Page Rule) → (if room then open_outcome (next_in t tab) r else denied U3).items ≡ map item_of (if_ok (is_ok (if room then open_outcome (next_in t tab) r else denied U3).head) (opening t tab r))
     by_room true (Ok page) = refl
     by_room true (Err rule) = refl
     by_room false r = refl
 
-close_items : (live : Option Instance) → (close_row live).items ≡ map item_of (if_ok (is_ok (close_row live).head) (end live))
+close_items : (live : Option Instance) → (close_outcome live).items ≡ map item_of (if_ok (is_ok (close_outcome live).head) (end live))
 close_items (Some who) = refl
 close_items None = refl
 
 go_items : (life : Life) (t : Tabs) (who : Instance) (r : Result Page Rule)
-    → (admitted life (go_row who (origin_in t who) (next_in t who.tab) r)).items ≡ map item_of (if_ok (is_ok (admitted life (go_row who (origin_in t who) (next_in t who.tab) r)).head) (leave t who r))
+    → (admitted life (go_outcome who (origin_in t who) (next_in t who.tab) r)).items ≡ map item_of (if_ok (is_ok (admitted life (go_outcome who (origin_in t who) (next_in t who.tab) r)).head) (leave t who r))
 go_items Unborn t who r = refl
 go_items Gone t who r = refl
 go_items Alive t who (Err rule) = refl
@@ -60,7 +60,7 @@ close_agrees H p o J tab w sound =
     record { told = ap (told (PageOf p)) (close_items ((tabs H J).live tab)) ∙ law.0; mine = law.1 }
 
 -- switching tells nothing, and is no fact
-switch_items : (live : Option Instance) → (switch_row live).items ≡ []
+switch_items : (live : Option Instance) → (switch_outcome live).items ≡ []
 switch_items (Some who) = refl
 switch_items None = refl
 
@@ -84,23 +84,23 @@ after_differs : (p : Instance) → same (record { tab = p.tab; ord = p.ord + 1 }
 after_differs p = grind (arith, nat_tests)
 
 go_answers : (p next other : Instance) (origin : List ℕ) (r : Result Page Rule) → same next p ≡ false → same other p ≡ false
-    → answers p (go_row p origin next r) ≡ answers p (go_row p origin other r)
+    → answers p (go_outcome p origin next r) ≡ answers p (go_outcome p origin other r)
 go_answers p next other origin (Err rule) n m = refl
 go_answers p next other origin (Ok page) n m = grind (arith, nat_tests)
 
 -- what the instance's own going gives, and how it is counted
 record OwnGo (H : HostTable) (p : Instance) (o : List ℕ) (t : Tabs) (url : List ℕ) (sets : List Cookie) (page : Option Page) (gone : Bool) : Type 0 where
-  told : answers p (admitted (life_with page gone) (go_row p (origin_with page) (next_in t p.tab) (allowed H url))) ≡ answers p (own_out H o (Go p url) (mine_with page gone sets))
-  silent : change_facts p true (if_ok (is_ok (admitted (life_with page gone) (go_row p (origin_with page) (next_in t p.tab) (allowed H url))).head) (leave t p (allowed H url))) ≡ []
-  mine : mine_in (changed_by t (if_ok (is_ok (admitted (life_with page gone) (go_row p (origin_with page) (next_in t p.tab) (allowed H url))).head) (leave t p (allowed H url)))) p sets ≡ own_after H o (Go p url) (mine_with page gone sets)
+  told : answers p (admitted (life_with page gone) (go_outcome p (origin_with page) (next_in t p.tab) (allowed H url))) ≡ answers p (own_out H o (Go p url) (mine_with page gone sets))
+  silent : change_facts p true (if_ok (is_ok (admitted (life_with page gone) (go_outcome p (origin_with page) (next_in t p.tab) (allowed H url))).head) (leave t p (allowed H url))) ≡ []
+  mine : mine_in (changed_by t (if_ok (is_ok (admitted (life_with page gone) (go_outcome p (origin_with page) (next_in t p.tab) (allowed H url))).head) (leave t p (allowed H url)))) p sets ≡ own_after H o (Go p url) (mine_with page gone sets)
 
 own_go_alive_silent : (p : Instance) (t : Tabs) (page : Page) (r : Result Page Rule) → same (next_in t p.tab) p ≡ false
-    → change_facts p true (if_ok (is_ok (go_row p page.origin (next_in t p.tab) r).head) (leave t p r)) ≡ []
+    → change_facts p true (if_ok (is_ok (go_outcome p page.origin (next_in t p.tab) r).head) (leave t p r)) ≡ []
 own_go_alive_silent p t page (Err rule) differs = refl
 own_go_alive_silent p t page (Ok to) differs = grind (arith, nat_tests)
 
 own_go_alive_mine : (p : Instance) (o : List ℕ) (t : Tabs) (sets : List Cookie) (page : Page) (r : Result Page Rule) → t.page p ≡ Some page → t.is_gone p ≡ false → page.origin ≡ o → same (next_in t p.tab) p ≡ false
-    → mine_in (changed_by t (if_ok (is_ok (go_row p page.origin (next_in t p.tab) r).head) (leave t p r))) p sets ≡ record { life = life_after_go p o r; sets = sets }
+    → mine_in (changed_by t (if_ok (is_ok (go_outcome p page.origin (next_in t p.tab) r).head) (leave t p r))) p sets ≡ record { life = life_after_go p o r; sets = sets }
 own_go_alive_mine p o t sets page (Err rule) is gone origin differs = rw (is, gone) refl
 own_go_alive_mine p o t sets page (Ok to) is gone origin differs =
     let here : bytes_eq to.origin page.origin ≡ bytes_eq to.origin o = ap (bytes_eq to.origin) origin in
@@ -124,7 +124,7 @@ own_go H p o t url sets (Some page) false sound is is_gone suits =
     let origin : page.origin ≡ o = suits (λ unborn. cc) in
     record {
       told = go_answers p (next_in t p.tab) (record { tab = p.tab; ord = p.ord + 1 }) page.origin (allowed H url) differs (after_differs p)
-          ∙ ap (λ (x : List ℕ). answers p (go_row p x (record { tab = p.tab; ord = p.ord + 1 }) (allowed H url))) origin;
+          ∙ ap (λ (x : List ℕ). answers p (go_outcome p x (record { tab = p.tab; ord = p.ord + 1 }) (allowed H url))) origin;
       silent = own_go_alive_silent p t page (allowed H url) differs;
       mine = own_go_alive_mine p o t sets page (allowed H url) is is_gone origin differs;
     }

@@ -13,10 +13,10 @@ use Rattle.ibos_model.specs.Journal.{Journal, is_accepted, is_ok, same}
 use Rattle.ibos_model.specs.Focus.{Focus, focus_by, focus_of, is_active}
 use Rattle.ibos_model.specs.Tabs.{Tabs, Opens, Moves, Ends, changed, changed_by, changes, leave, active_in, active_of, tabs, next_in, origin_in}
 use Rattle.ibos_model.specs.Screen.{bar_of, bar_text, chrome_in, chrome_of}
-use Rattle.ibos_model.specs.Rows.{out}
+use Rattle.ibos_model.specs.Outcomes.{out}
 use Rattle.ibos_model.specs.Laws.{IsChromeKept, is_users, goes_active}
 use Rattle.ibos_model.proofs.Denials.{unchanged}
-use Rattle.ibos_model.proofs.Due.{IsSound, admitted_lives, tabs_sound}
+use Rattle.ibos_model.proofs.ChangesDue.{IsSound, admitted_lives, tabs_sound}
 
 -- the same active instance at the same URL
 chrome_from : (old new : Tabs) (f : Focus) → active_in new f ≡ active_in old f → ((a : Instance) → active_in old f ≡ Some a → new.url a ≡ old.url a)

@@ -26,8 +26,8 @@ still H t f origins sets cells (Press (Byte byte)) = record { changes = refl; fo
 still H t f origins sets cells other = record { changes = refl; focus = refl; sets_are = refl; cells_are = refl }
 
 -- the views, from their parts
-abbrev shown : Tabs → Focus → (Instance → ℕ → ℕ → ℕ) → Option Instance → ℕ → ℕ → ℕ
-shown t f cells active r c =
+abbrev screen_by : Tabs → Focus → (Instance → ℕ → ℕ → ℕ) → Option Instance → ℕ → ℕ → ℕ
+screen_by t f cells active r c =
     if nat_lt r chrome_rows then slice_index (padded (chrome_in t f r)) c
     else content active (r - chrome_rows) c
   where
@@ -35,21 +35,21 @@ shown t f cells active r c =
     content None r c = space
     content (Some who) r c = cells who r c
 
-abbrev seen : Tabs → Focus → (List ℕ → List Cookie) → (Instance → ℕ → ℕ → ℕ) → Views
-seen t f sets cells = record { tabs = t; focus = f; sets = sets; cells = cells; screen = shown t f cells (active_in t f) }
+abbrev views_in : Tabs → Focus → (List ℕ → List Cookie) → (Instance → ℕ → ℕ → ℕ) → Views
+views_in t f sets cells = record { tabs = t; focus = f; sets = sets; cells = cells; screen = screen_by t f cells (active_in t f) }
 
-abbrev seen_after : HostTable → Tabs → Focus → (List ℕ → List Cookie) → (Instance → ℕ → ℕ → ℕ) → Bool → Act → Views
-seen_after H t f sets cells ok a = seen (changed_by t (changes H t f ok a)) (focus_by ok a f) (λ o. sets_by (origin_in t) o ok a (sets o)) (λ p r c. cell_by p r c ok a (cells p r c))
+abbrev views_after : HostTable → Tabs → Focus → (List ℕ → List Cookie) → (Instance → ℕ → ℕ → ℕ) → Bool → Act → Views
+views_after H t f sets cells ok a = views_in (changed_by t (changes H t f ok a)) (focus_by ok a f) (λ o. sets_by (origin_in t) o ok a (sets o)) (λ p r c. cell_by p r c ok a (cells p r c))
 
-seen_still : (H : HostTable) (t : Tabs) (f : Focus) (sets : List ℕ → List Cookie) (cells : Instance → ℕ → ℕ → ℕ) (a : Act) → IsStill H t f (origin_in t) sets cells a → seen_after H t f sets cells false a ≡ seen t f sets cells
-seen_still H t f sets cells a is =
-    ap (λ cs. seen (changed_by t cs) (focus_by false a f) (λ o. sets_by (origin_in t) o false a (sets o)) (λ p r c. cell_by p r c false a (cells p r c))) is.changes
-    ∙ ap (λ g. seen t g (λ o. sets_by (origin_in t) o false a (sets o)) (λ p r c. cell_by p r c false a (cells p r c))) is.focus
-    ∙ ap (λ s. seen t f s (λ p r c. cell_by p r c false a (cells p r c))) is.sets_are
-    ∙ ap (λ x. seen t f sets x) is.cells_are
+views_still : (H : HostTable) (t : Tabs) (f : Focus) (sets : List ℕ → List Cookie) (cells : Instance → ℕ → ℕ → ℕ) (a : Act) → IsStill H t f (origin_in t) sets cells a → views_after H t f sets cells false a ≡ views_in t f sets cells
+views_still H t f sets cells a is =
+    ap (λ cs. views_in (changed_by t cs) (focus_by false a f) (λ o. sets_by (origin_in t) o false a (sets o)) (λ p r c. cell_by p r c false a (cells p r c))) is.changes
+    ∙ ap (λ g. views_in t g (λ o. sets_by (origin_in t) o false a (sets o)) (λ p r c. cell_by p r c false a (cells p r c))) is.focus
+    ∙ ap (λ s. views_in t f s (λ p r c. cell_by p r c false a (cells p r c))) is.sets_are
+    ∙ ap (λ x. views_in t f sets x) is.cells_are
 
 pub unchanged : IsUnchanged
 unfolding tabs focus_of sets_of cell_of screen
 unchanged H J e is =
-    ap (λ ok. seen_after H (tabs H J) (focus_of J) (sets_of H J) (cell_of J) ok e.act) is
-    ∙ seen_still H (tabs H J) (focus_of J) (sets_of H J) (cell_of J) e.act (still H (tabs H J) (focus_of J) (origin_in (tabs H J)) (sets_of H J) (cell_of J) e.act)
+    ap (λ ok. views_after H (tabs H J) (focus_of J) (sets_of H J) (cell_of J) ok e.act) is
+    ∙ views_still H (tabs H J) (focus_of J) (sets_of H J) (cell_of J) e.act (still H (tabs H J) (focus_of J) (origin_in (tabs H J)) (sets_of H J) (cell_of J) e.act)

@@ -6,7 +6,7 @@ use Rattle.ibos_kinds.specs.declared.outcome.Outcome.{Outcome}
 use Rattle.ibos_script.specs.Printed.{outcome_text}
 use Rattle.ibos_origin.specs.Hosts.{HostTable}
 use Rattle.ibos_model.specs.Journal.{Entry, Journal, acts, heard, is_heard, if_heard}
-use Rattle.ibos_model.specs.Rows.{out}
+use Rattle.ibos_model.specs.Outcomes.{out}
 use Rattle.ibos_model.specs.Runs.{Follows, GoesOn, IsRun, IsWritten, written_by, left_by, entry_of, run_from, run}
 use Rattle.ibos_model.specs.Text.{text_of}
 use Rattle.ibos_model.specs.Laws.{AreRuns, AreOfTheirActs, DoGoOn, AreFronts}

@@ -8,14 +8,14 @@ use Rattle.ibos_origin.specs.Hosts.{HostTable}
 use Rattle.ibos_model.specs.Journal.{Entry, Journal, same}
 use Rattle.ibos_model.specs.Tabs.{tabs}
 use Rattle.ibos_model.specs.Jars.{sets_of}
-use Rattle.ibos_model.specs.Rows.{out}
+use Rattle.ibos_model.specs.Outcomes.{out}
 use Rattle.ibos_model.specs.Runs.{IsRun, run}
 use Rattle.ibos_model.specs.Facts.{Suits}
 use Rattle.ibos_model.specs.Laws.{IsIsolated, IsIsolatedIn, IsIsolatedOverTwo, IsCarriedAlways}
 use Rattle.ibos_model.proofs.Inductions.{Holds, holds, adds, same_told}
-use Rattle.ibos_model.proofs.Fresh.{suits_before}
-use Rattle.ibos_model.proofs.Due.{IsSound, tabs_sound}
-use Rattle.ibos_model.proofs.Agrees.{own_law, Agrees, entry}
+use Rattle.ibos_model.proofs.NewInstances.{suits_before}
+use Rattle.ibos_model.proofs.ChangesDue.{IsSound, tabs_sound}
+use Rattle.ibos_model.proofs.EntriesAgree.{own_law, Agrees, entry}
 use Rattle.ibos_model.proofs.AgreeTabs.{start_agrees, switch_agrees, close_agrees, go_agrees}
 use Rattle.ibos_model.proofs.AgreeCookies.{set_agrees, get_agrees}
 use Rattle.ibos_model.proofs.GoingOn.{is_run}

@@ -7,7 +7,7 @@ use Rattle.std.proofs.lemmas.Slice.Eq.{bytes_eq-Decides}
 use Rattle.ibos_kinds.specs.declared.cookies.Cookie.{Cookie}
 use Rattle.ibos_kinds.specs.Cookies.{put}
 use Rattle.ibos_model.specs.Jars.{names, value_of, jar}
-use Rattle.ibos_model.proofs.Folds.{bytes_eq-refl}
+use Rattle.ibos_model.proofs.Equalities.{bytes_eq-refl}
 
 abbrev is_in : List ℕ → List (List ℕ) → Bool
 is_in name ns = list_any (bytes_eq name) ns

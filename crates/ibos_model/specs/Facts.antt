@@ -42,15 +42,15 @@ others origins p o ok other = []
 
 -- a key or a click that goes to the active instance
 abbrev pub hits : Instance → Option Instance → Bool → Bool → Act → List Fact
-hits p active at_entry ok (Press key) = when (ok && (not at_entry && is_active p active)) (KeyHit (key_byte key))
-hits p active at_entry ok (Click row col) = when (ok && (not (nat_lt row chrome_rows) && is_active p active)) (ClickHit (row - chrome_rows) col)
-hits p active at_entry ok other = []
+hits p active at_entry_line ok (Press key) = when (ok && (not at_entry_line && is_active p active)) (KeyHit (key_byte key))
+hits p active at_entry_line ok (Click row col) = when (ok && (not (nat_lt row chrome_rows) && is_active p active)) (ClickHit (row - chrome_rows) col)
+hits p active at_entry_line ok other = []
 
 -- what one entry adds
 abbrev pub facts_at : HostTable → Instance → List ℕ → Journal → Entry → List Fact
 facts_at H p o J e =
     when (is_by (Page p) e.act) (Own e.act)
-    ++ (hits p (active_of H J) (focus_of J).at_entry (is_accepted e) e.act
+    ++ (hits p (active_of H J) (focus_of J).at_entry_line (is_accepted e) e.act
     ++ (others (origin_of H J) p o (is_accepted e) e.act
     ++ change_facts p (is_by (Page p) e.act) (changes H (tabs H J) (focus_of J) (is_accepted e) e.act)))
 

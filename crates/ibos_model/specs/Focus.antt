@@ -13,11 +13,11 @@ pub record Focus : Type 0 where
   -- the active tab
   pub tab : Option ℕ
   -- keys go to the entry line, and else to the active instance
-  pub at_entry : Bool
-  pub entry : List ℕ
+  pub at_entry_line : Bool
+  pub entry_line : List ℕ
 
 abbrev pub no_focus : Focus
-no_focus = record { tab = None; at_entry = true; entry = [] }
+no_focus = record { tab = None; at_entry_line = true; entry_line = [] }
 
 -- closing the active tab leaves none active
 abbrev pub without : ℕ → Option ℕ → Option ℕ
@@ -39,28 +39,28 @@ abbrev pub clicked : ℕ → Bool → Bool
 clicked row old = if nat_lt row 2 then old else row == 2
 
 -- opening and switching go to the content, and so does Enter; closing the active tab goes to the entry line
-abbrev pub at_entry_by : Option ℕ → Bool → Act → Bool → Bool
-at_entry_by active ok (Start tab url) old = if ok then false else old
-at_entry_by active ok (Switch tab) old = if ok then false else old
-at_entry_by active ok (Close tab) old = if ok && is_tab tab active then true else old
-at_entry_by active ok (Press Enter) old = if ok then false else old
-at_entry_by active ok (Click row col) old = if ok then clicked row old else old
-at_entry_by active ok other old = old
+abbrev pub at_entry_line_by : Option ℕ → Bool → Act → Bool → Bool
+at_entry_line_by active ok (Start tab url) old = if ok then false else old
+at_entry_line_by active ok (Switch tab) old = if ok then false else old
+at_entry_line_by active ok (Close tab) old = if ok && is_tab tab active then true else old
+at_entry_line_by active ok (Press Enter) old = if ok then false else old
+at_entry_line_by active ok (Click row col) old = if ok then clicked row old else old
+at_entry_line_by active ok other old = old
 
 -- an accepted Enter empties the entry line
 abbrev pub entered : Key → List ℕ → List ℕ
 entered Enter entry = []
 entered key entry = typed entry key
 
-abbrev pub entry_by : Bool → Bool → Act → List ℕ → List ℕ
-entry_by at_entry ok (Press key) old = if ok && at_entry then entered key old else old
-entry_by at_entry ok other old = old
+abbrev pub entry_line_by : Bool → Bool → Act → List ℕ → List ℕ
+entry_line_by at_entry_line ok (Press key) old = if ok && at_entry_line then entered key old else old
+entry_line_by at_entry_line ok other old = old
 
 abbrev pub focus_by : Bool → Act → Focus → Focus
 focus_by ok act f = record {
   tab = active_by ok act f.tab;
-  at_entry = at_entry_by f.tab ok act f.at_entry;
-  entry = entry_by f.at_entry ok act f.entry;
+  at_entry_line = at_entry_line_by f.tab ok act f.at_entry_line;
+  entry_line = entry_line_by f.at_entry_line ok act f.entry_line;
 }
 
 -- the focus after a journal

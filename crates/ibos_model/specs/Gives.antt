@@ -12,7 +12,7 @@ use Rattle.ibos_origin.specs.Pages.{Page, allowed}
 use Rattle.ibos_model.specs.Journal.{is_ok}
 use Rattle.ibos_model.specs.Tabs.{Life, Unborn, Alive, Gone}
 use Rattle.ibos_model.specs.Jars.{with_set}
-use Rattle.ibos_model.specs.Rows.{accepted, admitted, go_row, draw_row, set_row, get_row}
+use Rattle.ibos_model.specs.Outcomes.{accepted, admitted, go_outcome, draw_outcome, set_outcome, get_outcome}
 use Rattle.ibos_kinds.specs.declared.party.Party.TheVariants.{Page as PageOf}
 use Rattle.ibos_model.specs.Folds.{counted, given}
 use Rattle.ibos_model.specs.Delivered.{Delivery, Answer, Told, told}
@@ -27,16 +27,16 @@ abbrev pub newborn : Mine
 newborn = record { life = Unborn; sets = [] }
 
 -- the row of one of its acts, where a next instance is of its tab
-abbrev pub own_row : HostTable → List ℕ → Act → Mine → Outcome
-own_row H o (CookieSet side who text) m = set_row text m.sets
-own_row H o (CookieGet side who) m = get_row who m.sets
-own_row H o (Go who url) m = go_row who o (record { tab = who.tab; ord = who.ord + 1 }) (allowed H url)
-own_row H o (Draw who row col height width pixels) m = draw_row row col height width pixels
-own_row H o other m = accepted []
+abbrev pub own_outcome : HostTable → List ℕ → Act → Mine → Outcome
+own_outcome H o (CookieSet side who text) m = set_outcome text m.sets
+own_outcome H o (CookieGet side who) m = get_outcome who m.sets
+own_outcome H o (Go who url) m = go_outcome who o (record { tab = who.tab; ord = who.ord + 1 }) (allowed H url)
+own_outcome H o (Draw who row col height width pixels) m = draw_outcome row col height width pixels
+own_outcome H o other m = accepted []
 
 -- the outcome of one of its acts
 abbrev pub own_out : HostTable → List ℕ → Act → Mine → Outcome
-own_out H o a m = admitted m.life (own_row H o a m)
+own_out H o a m = admitted m.life (own_outcome H o a m)
 
 abbrev pub life_after_go : Instance → List ℕ → Result Page Rule → Life
 life_after_go who o (Ok page) = if bytes_eq page.origin o then Alive else if nat_lt who.ord 31 then Gone else Alive

@@ -4,7 +4,7 @@ pub mod Focus
 pub mod Tabs
 pub mod Jars
 pub mod Screen
-pub mod Rows
+pub mod Outcomes
 pub mod Runs
 pub mod Facts
 pub mod Delivered

@@ -10,34 +10,34 @@ use Rattle.ibos_model.specs.Focus.{Focus, focus_of}
 use Rattle.ibos_model.specs.Tabs.{Tabs, tabs, active_in, active_of}
 
 -- a byte as the chrome shows it: `?` for one that is not printable
-abbrev pub shown_byte : ℕ → ℕ
-shown_byte b = if is_pixel b then b else 63
+abbrev pub chrome_byte : ℕ → ℕ
+chrome_byte b = if is_pixel b then b else 63
 
 abbrev pub place_text : Bool → List ℕ
-place_text at_entry = if at_entry then codes " entry" else codes " page"
+place_text at_entry_line = if at_entry_line then codes " entry" else codes " page"
 
 -- row 0: the active instance, and where keys go
 unfoldable pub state_text : Option Instance → Bool → List ℕ
-state_text None at_entry = codes "no tab"
-state_text (Some who) at_entry = codes "tab " ++ decimal who.tab ++ codes "." ++ decimal who.ord ++ place_text at_entry
+state_text None at_entry_line = codes "no tab"
+state_text (Some who) at_entry_line = codes "tab " ++ decimal who.tab ++ codes "." ++ decimal who.ord ++ place_text at_entry_line
 
 -- row 1, the address bar: a URL, or its first 79 bytes and `>`
 unfoldable pub bar_text : List ℕ → List ℕ
-bar_text url = map shown_byte (if nat_lt columns (length url) then take 79 url ++ codes ">" else url)
+bar_text url = map chrome_byte (if nat_lt columns (length url) then take 79 url ++ codes ">" else url)
 
 abbrev pub bar_of : Tabs → Option Instance → List ℕ
 bar_of t None = []
 bar_of t (Some who) = bar_text (t.url who)
 
 -- row 2, the entry line: its text, or `<` and its last 79 bytes
-unfoldable pub entry_text : List ℕ → List ℕ
-entry_text entry = map shown_byte (if nat_lt columns (length entry) then codes "<" ++ drop (length entry - 79) entry else entry)
+unfoldable pub entry_line_text : List ℕ → List ℕ
+entry_line_text entry = map chrome_byte (if nat_lt columns (length entry) then codes "<" ++ drop (length entry - 79) entry else entry)
 
 -- the texts of rows 0 to 2
 abbrev pub chrome_in : Tabs → Focus → ℕ → List ℕ
-chrome_in t f zero = state_text (active_in t f) f.at_entry
+chrome_in t f zero = state_text (active_in t f) f.at_entry_line
 chrome_in t f (suc zero) = bar_of t (active_in t f)
-chrome_in t f (suc (suc r)) = entry_text f.entry
+chrome_in t f (suc (suc r)) = entry_line_text f.entry_line
 
 abbrev pub chrome_of : HostTable → Journal → ℕ → List ℕ
 chrome_of H J r = chrome_in (tabs H J) (focus_of J) r

@@ -104,7 +104,7 @@ entering t (Some who) r = leave t who r
 abbrev pub changes : HostTable → Tabs → Focus → Bool → Act → List Change
 changes H t f ok (Start tab url) = if_ok ok (opening t tab (allowed H url))
 changes H t f ok (Close tab) = if_ok ok (end (t.live tab))
-changes H t f ok (Press Enter) = if_ok (ok && f.at_entry) (entering t (active_in t f) (allowed H f.entry))
+changes H t f ok (Press Enter) = if_ok (ok && f.at_entry_line) (entering t (active_in t f) (allowed H f.entry_line))
 changes H t f ok (Go who url) = if_ok ok (leave t who (allowed H url))
 changes H t f ok other = []
 

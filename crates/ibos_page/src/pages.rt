@@ -42,7 +42,8 @@ impl Model for Pages {
 impl Pages {
     /// No tab has had an instance. All the room is reserved here.
     pub(crate) fn new(alloc: Global) -> Result<Pages, Memory>
-        ensures empty { IfOk result (λ seats. (tab : ℕ) → slice_index_or seats tab empty_seat ≡ empty_seat) }
+        ensures empty { IfOk result (λ seats. (tab : ℕ) → slice_index_or seats tab empty_seat
+            ≡ empty_seat) }
         ensures room { IfOk result (λ seats. length seats ≡ 64) }
     {
         let mut places = Vec::with_capacity(alloc, TABS)?;
@@ -93,7 +94,8 @@ impl Pages {
     /// Whether a page is of the origin of what a tab shows.
     pub(crate) fn is_of_origin(&self, tab: u8, page: &Page) -> bool
         requires { tab < 64 }
-        ensures { result ≡ bytes_eq page.now.origin (origin_with (slice_index_or self.now tab empty_seat).page) }
+        ensures { result
+            ≡ bytes_eq page.now.origin (origin_with (slice_index_or self.now tab empty_seat).page) }
     {
         match self.page(tab) {
             Some(shown) => page.origin() == shown.origin(),
@@ -105,7 +107,8 @@ impl Pages {
     pub(crate) fn open(&mut self, tab: u8, page: Page)
         requires tab { tab < 64 }
         requires count { (slice_index_or self.old tab empty_seat).count < 32 }
-        ensures { self.new ≡ slice_set self.old tab (opened page (slice_index_or self.old tab empty_seat)) }
+        ensures { self.new
+            ≡ slice_set self.old tab (opened page (slice_index_or self.old tab empty_seat)) }
     {
         self.put(tab, self.count(tab) + 1, page);
     }
@@ -113,7 +116,8 @@ impl Pages {
     /// A tab's instance shows the page.
     pub(crate) fn show(&mut self, tab: u8, page: Page)
         requires { tab < 64 }
-        ensures { self.new ≡ slice_set self.old tab (moved page (slice_index_or self.old tab empty_seat)) }
+        ensures { self.new
+            ≡ slice_set self.old tab (moved page (slice_index_or self.old tab empty_seat)) }
     {
         self.put(tab, self.count(tab), page);
     }
@@ -122,7 +126,8 @@ impl Pages {
     pub(crate) fn end(&mut self, tab: u8)
         requires tab { tab < 64 }
         requires live { (slice_index_or self.old tab empty_seat).page ≢ None }
-        ensures { self.new ≡ slice_set self.old tab (closed (slice_index_or self.old tab empty_seat)) }
+        ensures { self.new
+            ≡ slice_set self.old tab (closed (slice_index_or self.old tab empty_seat)) }
     {
         let Place { count, key } = self.places[tab as usize];
         let Some(key) = key else {

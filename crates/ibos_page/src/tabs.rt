@@ -9,7 +9,7 @@ use ibos_origin::Page;
 use std::alloc::Global;
 use std::marker::Model;
 
-const INSTANCES: u8 = 32;
+const MAX_INSTANCES: u8 = 32;
 
 /// What became of an instance that went to a page: it stays, within its origin, or it ended and the
 /// tab's next one started.
@@ -63,7 +63,7 @@ impl Tabs {
             return Err(Rule::U1);
         }
         let count = self.pages.count(tab);
-        if count >= INSTANCES {
+        if count >= MAX_INSTANCES {
             return Err(Rule::U3);
         }
         Ok(Instance { tab, ord: count })
@@ -74,7 +74,9 @@ impl Tabs {
         requires tab { tab < 64 }
         requires may { IsOk (start_in self.old tab) }
         ensures who { result ≡ next_at self.old tab }
-        ensures table { self.new ≡ record (with_seat self.old tab (opened page (seat_at self.old tab))) { active = Some tab } }
+        ensures table { self.new
+            ≡ record (with_seat self.old tab (opened page (seat_at self.old tab)))
+            { active = Some tab } }
     {
         let who = Instance {
             tab,
@@ -88,7 +90,8 @@ impl Tabs {
     /// Makes a tab active. U2 exactly where it has no live instance.
     pub fn switch(&mut self, tab: u8) -> Result<(), Rule>
         requires { tab < 64 }
-        ensures answer { result ≡ (if is_some (seat_at self.old tab).page then Ok tt else Err Rule.U2) }
+        ensures answer { result ≡ (if is_some (seat_at self.old tab).page then Ok tt
+            else Err Rule.U2) }
         ensures ok { OnOk result (self.new ≡ record self.old { active = Some tab }) }
         ensures err { OnErr result (self.new ≡ self.old) }
     {
@@ -104,7 +107,9 @@ impl Tabs {
     pub fn close(&mut self, tab: u8) -> Result<Instance, Rule>
         requires { tab < 64 }
         ensures answer { result ≡ ok_or (live_at self.old tab) Rule.U2 }
-        ensures ok { OnOk result (self.new ≡ record (with_seat self.old tab (closed (seat_at self.old tab))) { active = without tab self.old.active }) }
+        ensures ok { OnOk result (self.new
+            ≡ record (with_seat self.old tab (closed (seat_at self.old tab)))
+            { active = without tab self.old.active }) }
         ensures err { OnErr result (self.new ≡ self.old) }
     {
         if !self.pages.is_live(tab) {
@@ -125,15 +130,17 @@ impl Tabs {
     pub fn go(&mut self, who: Instance, page: Page) -> Result<Moved, Rule>
         requires { live_at self.old who.tab ≡ Some who }
         ensures answer { result ≡ go_in who (origin_with (seat_at self.old who.tab).page) page }
-        ensures stays { result ≡ Ok Moved.Same → self.new ≡ with_seat self.old who.tab (moved page (seat_at self.old who.tab)) }
-        ensures leaves { (next : Instance) → result ≡ Ok (Moved.New next) → self.new ≡ with_seat self.old who.tab (opened page (seat_at self.old who.tab)) }
+        ensures stays { result ≡ Ok Moved.Same → self.new
+            ≡ with_seat self.old who.tab (moved page (seat_at self.old who.tab)) }
+        ensures leaves { (next : Instance) → result ≡ Ok (Moved.New next) → self.new
+            ≡ with_seat self.old who.tab (opened page (seat_at self.old who.tab)) }
         ensures err { OnErr result (self.new ≡ self.old) }
     {
         if self.pages.is_of_origin(who.tab, &page) {
             self.pages.show(who.tab, page);
             return Ok(Moved::Same);
         }
-        if who.ord >= INSTANCES - 1 {
+        if who.ord >= MAX_INSTANCES - 1 {
             return Err(Rule::U3);
         }
         let next = Instance {
@@ -170,7 +177,8 @@ impl Tabs {
 
         // There are 64 tabs, and a live instance is the newest of its tab.
         ensures room { length self.now.seats ≡ 64 }
-        ensures newest { (tab : ℕ) (who : Instance) → live_at self.now tab ≡ Some who → who.ord + 1 ≡ (seat_at self.now tab).count }
+        ensures newest { (tab : ℕ) (who : Instance) → live_at self.now tab ≡ Some who → who.ord + 1
+            ≡ (seat_at self.now tab).count }
     {
         let tab = self.active?;
         Some(Instance {
@@ -211,7 +219,8 @@ impl Tabs {
     /// Where the frames of a live instance go: its host's address, and its URL's port.
     pub fn endpoint(&self, who: Instance) -> Endpoint
         requires { live_at self.now who.tab ≡ Some who }
-        ensures { IfSome (seat_at self.now who.tab).page (λ page. (result.addr ≡ page.addr) × (result.port ≡ page.port)) }
+        ensures { IfSome (seat_at self.now who.tab).page
+            (λ page. (result.addr ≡ page.addr) × (result.port ≡ page.port)) }
     {
         match self.pages.page(who.tab) {
             Some(page) => page.endpoint(),

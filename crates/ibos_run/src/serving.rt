@@ -4,7 +4,7 @@ ghost use Rattle.ibos_kinds.specs.Limits.{Fits};
 ghost use Rattle.ibos_kinds.specs.Outside.{Rose, taken_after};
 ghost use Rattle.ibos_script.specs.Printed.{outcome_text};
 ghost use Rattle.ibos_model.specs.Journal.{Journal};
-ghost use Rattle.ibos_model.specs.Rows.{out};
+ghost use Rattle.ibos_model.specs.Outcomes.{out};
 ghost use Rattle.ibos_model.specs.Text.{text_of};
 ghost use Rattle.ibos_model.specs.Inputs.{journal_of, last_line, reading_of, session_text};
 ghost use Rattle.ibos_kernel.specs.Standing.{Stands, entry};

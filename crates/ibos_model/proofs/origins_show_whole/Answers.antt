@@ -3,7 +3,7 @@ use Rattle.std.specs.Prelude.{IfOk}
 use Rattle.ibos_kinds.specs.declared.rule.Rule.{Rule}
 use Rattle.ibos_origin.specs.Pages.{Page}
 use Rattle.ibos_origin.proofs.Begins.{Begins, allowed_begins}
-use Rattle.ibos_model.proofs.Shown.{origin_shown}
+use Rattle.ibos_model.proofs.BarOrigins.{origin_shown}
 use Rattle.ibos_model.proofs.origins_show_whole.Goals as goal
 
 -- ibos_origin has no law so far which says that an allowed origin has at most 72 bytes

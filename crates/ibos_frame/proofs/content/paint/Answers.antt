@@ -1,5 +1,5 @@
 use Rattle.std.proofs.Common.{◌≡◌, ◌+◌, ◌-◌, ◌*◌, length, arith}
-use Rattle.ibos_frame.proofs.Lines.{drawn_next, drawn_none}
+use Rattle.ibos_frame.proofs.DrawnLines.{drawn_next, drawn_none}
 use Rattle.ibos_frame.proofs.content.paint.Goals as goal
 
 pub lines-init : goal.lines-init

@@ -1,7 +1,7 @@
 use Rattle.std.proofs.Common.{◌≡◌, ◌-◌, ◌∙◌, length, arith, ap, replicate, take, drop}
 use Rattle.std.proofs.lemmas.List.{length-take-le, length-drop}
 use Rattle.std.proofs.lemmas.Slice.{take-put_mid_below}
-use Rattle.ibos_frame.proofs.Parts.{drop-put_mid_end}
+use Rattle.ibos_frame.proofs.ScreenPixels.{drop-put_mid_end}
 use Rattle.ibos_frame.proofs.rows.clear_body.Goals as goal
 
 pub returns-clause-chrome : goal.returns-clause-chrome

@@ -1,6 +1,6 @@
 use Rattle.std.proofs.Common.{◌-◌, ◌∙◌, length, arith}
 use Rattle.std.proofs.lemmas.Slice.{take-put_mid_below}
-use Rattle.ibos_frame.proofs.Parts.{drop-put_mid_end}
+use Rattle.ibos_frame.proofs.ScreenPixels.{drop-put_mid_end}
 use Rattle.ibos_frame.proofs.rows.write_body.Goals as goal
 
 pub returns-clause-chrome : goal.returns-clause-chrome

@@ -1,5 +1,5 @@
 use Rattle.std.proofs.Common.{◌+◌, ◌-◌, ◌*◌, ◌∙◌, length, arith, ap}
-use Rattle.ibos_frame.proofs.Parts.{line-written, line-other, body-kept, length-padded}
+use Rattle.ibos_frame.proofs.ScreenPixels.{line-written, line-other, body-kept, length-padded}
 use Rattle.ibos_frame.proofs.rows.write_row.Goals as goal
 
 pub returns-clause-row : goal.returns-clause-row

@@ -1,7 +1,7 @@
 use Rattle.std.proofs.Common.{◌≡◌, ◌+◌, ◌++◌, List, ℕ, map, take}
 use Rattle.arrayvec.specs.ArrayVec.{array_vec_len}
-use Rattle.ibos_model.specs.Screen.{shown_byte}
+use Rattle.ibos_model.specs.Screen.{chrome_byte}
 use Rattle.ibos_kernel.proofs.chrome.push_shown.Given as goal
 
 abbrev pub invariant-bytes : goal.invariant-bytes
-invariant-bytes l = (array_vec_len l.row ≡ array_vec_len l.fn.row + l.byte-index) × (l.row.items ≡ l.fn.row.items ++ map shown_byte (take l.byte-index l.text))
+invariant-bytes l = (array_vec_len l.row ≡ array_vec_len l.fn.row + l.byte-index) × (l.row.items ≡ l.fn.row.items ++ map chrome_byte (take l.byte-index l.text))

@@ -1,8 +1,8 @@
 use Rattle.std.proofs.Common.{◌≡◌, ℕ, ◌≤◌}
 use Rattle.ibos_kinds.specs.declared.outcome.Head.TheVariants.{Ok}
-use Rattle.ibos_frame.specs.Frames.{seen_at}
+use Rattle.ibos_frame.specs.ScreenStates.{seen_at}
 use Rattle.ibos_model.specs.Screen.{seen_row}
-use Rattle.ibos_model.specs.Rows.{rows_from}
+use Rattle.ibos_model.specs.Outcomes.{rows_from}
 use Rattle.ibos_kernel.proofs.screens.look.Given as goal
 
 abbrev pub invariant-rows : goal.invariant-rows

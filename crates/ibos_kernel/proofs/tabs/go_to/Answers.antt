@@ -2,7 +2,7 @@ use Rattle.std.proofs.Common.{◌≡◌, sym, subst, ap, Ok, ◌∙◌}
 use Rattle.ibos_page.specs.Tabs.{TabTable}
 use Rattle.ibos_page.specs.declared.tabs.Moved.{Moved}
 use Rattle.ibos_kernel.specs.Tables.{Follows}
-use Rattle.ibos_kernel.proofs.Follow.{follows_replaced, moved_who}
+use Rattle.ibos_kernel.proofs.ContentsFollow.{follows_replaced, moved_who}
 use Rattle.ibos_kernel.proofs.tabs.go_to.Goals as goal
 
 pub returns-in_ok-push-in-Ok-New-2-clause-follows : goal.returns-in_ok-push-in-Ok-New-2-clause-follows

@@ -1,6 +1,6 @@
 use Rattle.std.proofs.Common.{◌<◌, length, Some, ◌∙◌, ap, arith, vec_len}
-use Rattle.ibos_frame.specs.Frames.{content_in}
-use Rattle.ibos_frame.proofs.Places.{content-set_same, content-set_other, content-same}
+use Rattle.ibos_frame.specs.ScreenStates.{content_in}
+use Rattle.ibos_frame.proofs.ContentPlaces.{content-set_same, content-set_other, content-same}
 use Rattle.ibos_frame.proofs.contents.Contents.begin.Goals as goal
 
 pub returns-clause-own : goal.returns-clause-own

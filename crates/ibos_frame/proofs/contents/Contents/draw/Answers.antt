@@ -1,7 +1,7 @@
 use Rattle.std.proofs.Common.{◌≡◌, ◌≢◌, ◌<◌, ℕ, List, length, Option, None, Some, sym, ◌∙◌, ap, subst, arith}
 use Rattle.ibos_kinds.specs.Screens.{cell_after}
-use Rattle.ibos_frame.specs.Frames.{content_in, pixel_in}
-use Rattle.ibos_frame.proofs.Places.{content_within, content_read, content-set_same, content-set_other}
+use Rattle.ibos_frame.specs.ScreenStates.{content_in, pixel_in}
+use Rattle.ibos_frame.proofs.ContentPlaces.{content_within, content_read, content-set_same, content-set_other}
 use Rattle.ibos_frame.proofs.contents.Contents.draw.Goals as goal
 
 pub index_mut-requires : goal.index_mut-requires

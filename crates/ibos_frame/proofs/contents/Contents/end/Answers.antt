@@ -1,6 +1,6 @@
 use Rattle.std.proofs.Common.{◌≢◌, ◌<◌, ℕ, List, length, Option, None, sym, ◌∙◌, ap, subst, arith}
-use Rattle.ibos_frame.specs.Frames.{content_in}
-use Rattle.ibos_frame.proofs.Places.{content_within, content-set_same, content-set_other}
+use Rattle.ibos_frame.specs.ScreenStates.{content_in}
+use Rattle.ibos_frame.proofs.ContentPlaces.{content_within, content-set_same, content-set_other}
 use Rattle.ibos_frame.proofs.contents.Contents.end.Goals as goal
 
 pub index_mut-requires : goal.index_mut-requires

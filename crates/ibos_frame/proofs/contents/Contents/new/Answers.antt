@@ -1,6 +1,6 @@
 use Rattle.std.proofs.Common.{◌∙◌, ap}
-use Rattle.ibos_frame.specs.Frames.{content_in}
-use Rattle.ibos_frame.proofs.Places.{content-nil}
+use Rattle.ibos_frame.specs.ScreenStates.{content_in}
+use Rattle.ibos_frame.proofs.ContentPlaces.{content-nil}
 use Rattle.ibos_frame.proofs.contents.Contents.new.Goals as goal
 
 pub returns : goal.returns

@@ -1,6 +1,6 @@
 use Rattle.std.proofs.Common.{◌≡◌, ◌≢◌, ◌<◌, ℕ, List, length, Option, None, Some, sym, ◌∙◌, ap, subst, arith}
-use Rattle.ibos_frame.specs.Frames.{content_in}
-use Rattle.ibos_frame.proofs.Places.{content_within, content_read}
+use Rattle.ibos_frame.specs.ScreenStates.{content_in}
+use Rattle.ibos_frame.proofs.ContentPlaces.{content_within, content_read}
 use Rattle.ibos_frame.proofs.contents.Contents.pixels.Goals as goal
 
 pub index-requires : goal.index-requires

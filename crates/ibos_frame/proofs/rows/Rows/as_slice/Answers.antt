@@ -1,6 +1,6 @@
 use Rattle.std.proofs.Common.{◌≡◌, ◌-◌, ◌∙◌, ◌++◌, length, sym, ap, arith}
 use Rattle.std.proofs.lemmas.List.{take-append-drop, length-take-le, length-drop}
-use Rattle.ibos_frame.specs.Frames.{Seen}
+use Rattle.ibos_frame.specs.ScreenStates.{Seen}
 use Rattle.ibos_frame.proofs.rows.Rows.as_slice.Goals as goal
 
 pub returns-clause-value : goal.returns-clause-value

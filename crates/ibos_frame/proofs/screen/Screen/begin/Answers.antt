@@ -1,6 +1,6 @@
 use Rattle.std.proofs.Common.{◌∙◌, Some, ap}
-use Rattle.ibos_frame.specs.Frames.{pixel_in}
-use Rattle.ibos_frame.proofs.Parts.{pixel-blank}
+use Rattle.ibos_frame.specs.ScreenStates.{pixel_in}
+use Rattle.ibos_frame.proofs.ScreenPixels.{pixel-blank}
 use Rattle.ibos_frame.proofs.screen.Screen.begin.Goals as goal
 
 pub returns-clause-blank : goal.returns-clause-blank

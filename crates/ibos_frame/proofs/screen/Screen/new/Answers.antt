@@ -1,6 +1,6 @@
 use Rattle.std.proofs.Common.{◌∙◌, ap}
-use Rattle.ibos_frame.specs.Frames.{line_of}
-use Rattle.ibos_frame.proofs.Parts.{line-blank}
+use Rattle.ibos_frame.specs.ScreenStates.{line_of}
+use Rattle.ibos_frame.proofs.ScreenPixels.{line-blank}
 use Rattle.ibos_frame.proofs.screen.Screen.new.Goals as goal
 
 pub returns-clause-chrome : goal.returns-clause-chrome

@@ -1,5 +1,5 @@
 use Rattle.std.proofs.Common.{refl, ◌∙◌}
-use Rattle.ibos_kernel.proofs.Steps.{new_holds, parts_stand}
+use Rattle.ibos_kernel.proofs.ActsStand.{new_holds, parts_stand}
 use Rattle.ibos_kernel.proofs.kernel.Kernel.new.Goals as goal
 
 pub returns-clause-stands : goal.returns-clause-stands

@@ -1,5 +1,5 @@
 use Rattle.std.proofs.Common.{◌∙◌}
-use Rattle.ibos_kernel.proofs.Steps.{pixels_seen}
+use Rattle.ibos_kernel.proofs.ActsStand.{pixels_seen}
 use Rattle.ibos_kernel.proofs.kernel.Kernel.pixels.Goals as goal
 
 pub returns-clause-screen : goal.returns-clause-screen

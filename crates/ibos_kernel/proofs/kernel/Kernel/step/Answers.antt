@@ -1,5 +1,5 @@
 use Rattle.ibos_kernel.specs.Standing.{entry}
-use Rattle.ibos_kernel.proofs.Steps.{step_stands, step_carries, step_tells, step_denied}
+use Rattle.ibos_kernel.proofs.ActsStand.{step_stands, step_carries, step_tells, step_denied}
 use Rattle.ibos_kernel.proofs.kernel.Kernel.step.Goals as goal
 
 pub returns-in-Ok-clause-outcome : goal.returns-in-Ok-clause-outcome

@@ -15,7 +15,7 @@ use Rattle.ibos_focus.specs.declared.focus.Spot.TheVariants.{Entry, Content}
 use Rattle.ibos_focus.specs.declared.focus.KeyDone.{KeyDone}
 use Rattle.ibos_focus.specs.declared.focus.KeyDone.TheVariants.{Enter as Entered}
 use Rattle.ibos_focus.specs.Focused.{Focused, key_at, edited}
-use Rattle.ibos_model.specs.Rows.{answer, denied, page_key_row}
+use Rattle.ibos_model.specs.Outcomes.{answer, denied, page_key_outcome}
 use Rattle.ibos_kernel.specs.Tables.{entry_key_at, enter_at, is_entry, press_at}
 
 abbrev rule_of : Rule → Result KeyDone Rule → Rule
@@ -31,7 +31,7 @@ enter_denied t None r rule h = ap denied (sym (ap (rule_of U10) h))
 enter_denied t (Some who) r rule h = absurd (cc h)
 
 pub key_denied : (H : HostTable) (t : TabTable) (spot : Spot) (entry : List ℕ) (key : Key) (rule : Rule) → key_at spot entry key (is_some (active_in t)) ≡ Err rule
-    → denied rule ≡ (if is_entry spot then entry_key_at H t entry key else page_key_row (active_in t) key)
+    → denied rule ≡ (if is_entry spot then entry_key_at H t entry key else page_key_outcome (active_in t) key)
 key_denied H t Content entry key rule h = absurd (cc h)
 key_denied H t Entry entry (Byte byte) rule h = edit_denied (key_breaks entry (Byte byte)) rule h
 key_denied H t Entry entry Back rule h = edit_denied (key_breaks entry Back) rule h

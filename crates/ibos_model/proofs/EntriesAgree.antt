@@ -9,11 +9,11 @@ use Rattle.ibos_origin.specs.Pages.{Page}
 use Rattle.ibos_model.specs.Journal.{Entry, Journal}
 use Rattle.ibos_model.specs.Tabs.{tabs, Unborn, life_with, origin_with}
 use Rattle.ibos_model.specs.Jars.{sets_of}
-use Rattle.ibos_model.specs.Rows.{admitted, out}
+use Rattle.ibos_model.specs.Outcomes.{admitted, out}
 use Rattle.ibos_model.specs.Facts.{Fact, Own, facts_at}
 use Rattle.ibos_model.specs.Gives.{Mine, own_out, deliveries, mine_after, gives_from}
 use Rattle.ibos_model.specs.Delivered.{Delivery, Answer, told, told_at}
-use Rattle.ibos_model.proofs.Changes.{mine_in}
+use Rattle.ibos_model.proofs.ChangesTold.{mine_in}
 use Rattle.ibos_model.proofs.Inductions.{Law, OneMore}
 
 -- what is counted for p, read from the journal

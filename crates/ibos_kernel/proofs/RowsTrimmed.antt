@@ -4,7 +4,7 @@ use Rattle.std.specs.Prelude.{◌==◌, slice_index, if◌then◌else◌}
 use Rattle.std.proofs.lemmas.Bool.Decides.{nat_tests}
 use Rattle.std.proofs.lemmas.List.{length-take-le, length-drop, get_or-take, get_or-drop}
 use Rattle.ibos_model.specs.Screen.{trimmed, trimmed_onto, cells_from, seen_row}
-use Rattle.ibos_model.specs.Rows.{rows_from}
+use Rattle.ibos_model.specs.Outcomes.{rows_from}
 use Rattle.ibos_kinds.specs.declared.outcome.Item.TheVariants.{RowIs}
 
 pub trimmed-space : (xs : List ℕ) → trimmed (xs ++ 32 ∷ []) ≡ trimmed xs

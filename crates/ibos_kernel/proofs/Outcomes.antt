@@ -28,19 +28,19 @@ use Rattle.ibos_model.specs.Journal.{Journal, is_ok, is_accepted}
 use Rattle.ibos_model.specs.Tabs.{Tabs, Opens, Moves, Ends, Life, Unborn, Alive, Gone, changed, tabs, no_tabs, next_in, life_of, origin_of, life_in, active_of}
 use Rattle.ibos_model.specs.Focus.{active_tab}
 use Rattle.ibos_model.specs.Jars.{jar, sets_of, with_set}
-use Rattle.ibos_frame.specs.Frames.{seen_at}
+use Rattle.ibos_frame.specs.ScreenStates.{seen_at}
 use Rattle.ibos_model.specs.Screen.{screen, seen_row}
-use Rattle.ibos_model.specs.Rows.{accepted, denied, admitted, answer, open_row, start_row, switch_row, close_row, page_key_row, enter_row, click_row, look_row, draw_row, go_row, set_row, get_row, out}
+use Rattle.ibos_model.specs.Outcomes.{accepted, denied, admitted, answer, open_outcome, start_outcome, switch_outcome, close_outcome, page_key_outcome, enter_outcome, click_outcome, look_outcome, draw_outcome, go_outcome, set_outcome, get_outcome, out}
 use Rattle.ibos_model.specs.Runs.{IsRun}
-use Rattle.ibos_kernel.specs.Tables.{Parts, origin_at, started_by, gone_by, go_at, enter_at, is_entry, let_in, get_at, row, with_started, with_gone, tabs_after, jar_after, Serves}
-use Rattle.ibos_kernel.specs.Standing.{Shows, Holds, life_by, life_at, entry}
-use Rattle.ibos_kernel.proofs.Shown.{none_shown, opens_shown, ends_shown, moves_shown, tab_of}
-use Rattle.ibos_kernel.proofs.Seen.{seen_same, looks_same}
+use Rattle.ibos_kernel.specs.Tables.{Parts, origin_at, started_by, gone_by, go_at, enter_at, is_entry, let_in, get_at, outcome_by, with_started, with_gone, tabs_after, jar_after, Serves}
+use Rattle.ibos_kernel.specs.Standing.{TabsStand, Holds, life_by, life_at, entry}
+use Rattle.ibos_kernel.proofs.TabsStanding.{none_stand, opens_stand, ends_stand, moves_stand, tab_of}
+use Rattle.ibos_kernel.proofs.ScreenSeen.{seen_same, looks_same}
 
 -- ---- the row by the tables is the row by the journal
 
 -- an instance is admitted exactly while it lives
-let_in_by : (T : Tabs) (t : TabTable) (who : Instance) (row : Outcome) → Shows T t → admitted (life_in T who) row ≡ let_in (admission t who) row
+let_in_by : (T : Tabs) (t : TabTable) (who : Instance) (row : Outcome) → TabsStand T t → admitted (life_in T who) row ≡ let_in (admission t who) row
 let_in_by T t who row shows = ap (λ life. admitted life row) (shows.life who) ∙ by_tests (is_live_in who (seat_at t who.tab)) (nat_lt who.ord (seat_at t who.tab).count)
   where
     by_tests : (live past : Bool) → admitted (if live then Alive else if past then Gone else Unborn) row ≡ let_in (if live then None else if past then Some P2 else Some P1) row
@@ -96,48 +96,48 @@ active_same J t stands = rw stands.active (by_tab t.tabs.active)
   where
     by_tab : (tab : Option ℕ) → option_and_then (tabs t.hosts J).live tab ≡ option_and_then (live_at t.tabs) tab
     by_tab None = refl
-    by_tab (Some tab) = stands.shown.live tab
+    by_tab (Some tab) = stands.tabs.live tab
 
 -- Enter at the entry line, in the words of the journal's rows
 abbrev pub enter_seen : TabTable → Option Instance → Result Page Rule → Outcome
 enter_seen t None r = denied U10
-enter_seen t (Some who) r = go_row who (origin_at t who) (next_at t who.tab) r
+enter_seen t (Some who) r = go_outcome who (origin_at t who) (next_at t who.tab) r
 
 abbrev pub entry_key_seen : HostTable → TabTable → List ℕ → Key → Outcome
 entry_key_seen H t entry Enter = enter_seen t (active_in t) (allowed H entry)
 entry_key_seen H t entry key = answer (key_breaks entry key)
 
 abbrev pub press_seen : HostTable → TabTable → Focused → Key → Outcome
-press_seen H t f key = if is_entry f.spot then entry_key_seen H t f.entry key else page_key_row (active_in t) key
+press_seen H t f key = if is_entry f.spot then entry_key_seen H t f.entry_line key else page_key_outcome (active_in t) key
 
 -- the row by the tables, in the words of the journal's rows
-abbrev pub row_seen : Parts → Act → Outcome
-row_seen t (Start tab url) = start_row (live_at t.tabs tab) (next_at t.tabs tab) (allowed t.hosts url)
-row_seen t (Switch tab) = switch_row (live_at t.tabs tab)
-row_seen t (Close tab) = close_row (live_at t.tabs tab)
-row_seen t (Press key) = press_seen t.hosts t.tabs t.focus key
-row_seen t (Click r c) = click_row (active_in t.tabs) r c
-row_seen t Look = look_row (seen_row (seen_at t.frames))
-row_seen t (Draw who r c height width pixels) = let_in (admission t.tabs who) (draw_row r c height width pixels)
-row_seen t (Go who url) = let_in (admission t.tabs who) (go_row who (origin_at t.tabs who) (next_at t.tabs who.tab) (allowed t.hosts url))
-row_seen t (CookieSet side who text) = let_in (admission t.tabs who) (answer (set_breaks text (jar_of t.jars (origin_at t.tabs who))))
-row_seen t (CookieGet side who) = let_in (admission t.tabs who) (get_at t.jars (origin_at t.tabs who) who)
+abbrev pub outcome_seen : Parts → Act → Outcome
+outcome_seen t (Start tab url) = start_outcome (live_at t.tabs tab) (next_at t.tabs tab) (allowed t.hosts url)
+outcome_seen t (Switch tab) = switch_outcome (live_at t.tabs tab)
+outcome_seen t (Close tab) = close_outcome (live_at t.tabs tab)
+outcome_seen t (Press key) = press_seen t.hosts t.tabs t.focus key
+outcome_seen t (Click r c) = click_outcome (active_in t.tabs) r c
+outcome_seen t Look = look_outcome (seen_row (seen_at t.screen))
+outcome_seen t (Draw who r c height width pixels) = let_in (admission t.tabs who) (draw_outcome r c height width pixels)
+outcome_seen t (Go who url) = let_in (admission t.tabs who) (go_outcome who (origin_at t.tabs who) (next_at t.tabs who.tab) (allowed t.hosts url))
+outcome_seen t (CookieSet side who text) = let_in (admission t.tabs who) (answer (set_breaks text (jar_of t.jars (origin_at t.tabs who))))
+outcome_seen t (CookieGet side who) = let_in (admission t.tabs who) (get_at t.jars (origin_at t.tabs who) who)
 
 start_seen : (page : Option Page) (tab count : ℕ) (r : Result Page Rule)
     → started_by (if is_some page then Err U1 else if nat_lt count 32 then Ok (record { tab = tab; ord = count }) else Err U3) r
-    ≡ start_row (option_map (λ (x : Page). record { tab = tab; ord = count - 1 }) page) (record { tab = tab; ord = count }) r
+    ≡ start_outcome (option_map (λ (x : Page). record { tab = tab; ord = count - 1 }) page) (record { tab = tab; ord = count }) r
 start_seen (Some page) tab count r = refl
 start_seen None tab count r = by_room (nat_lt count 32)
   where
-    by_room : (room : Bool) → started_by (if room then Ok (record { tab = tab; ord = count }) else Err U3) r ≡ (if room then open_row (record { tab = tab; ord = count }) r else denied U3)
+    by_room : (room : Bool) → started_by (if room then Ok (record { tab = tab; ord = count }) else Err U3) r ≡ (if room then open_outcome (record { tab = tab; ord = count }) r else denied U3)
     by_room true = refl
     by_room false = refl
 
-switch_seen : (page : Option Page) (tab count : ℕ) → (if is_some page then accepted [] else denied U2) ≡ switch_row (option_map (λ (x : Page). record { tab = tab; ord = count - 1 }) page)
+switch_seen : (page : Option Page) (tab count : ℕ) → (if is_some page then accepted [] else denied U2) ≡ switch_outcome (option_map (λ (x : Page). record { tab = tab; ord = count - 1 }) page)
 switch_seen (Some page) tab count = refl
 switch_seen None tab count = refl
 
-go_seen : (who next : Instance) (origin : List ℕ) (page : Page) → next ≡ record { tab = who.tab; ord = who.ord + 1 } → gone_by who page (go_in who origin page) ≡ go_row who origin next (Ok page)
+go_seen : (who next : Instance) (origin : List ℕ) (page : Page) → next ≡ record { tab = who.tab; ord = who.ord + 1 } → gone_by who page (go_in who origin page) ≡ go_outcome who origin next (Ok page)
 go_seen who next origin page is = rw is (by_tests (bytes_eq page.origin origin) (nat_lt who.ord 31))
   where
     by_tests : (same room : Bool) → gone_by who page (if same then Ok Same else if room then Ok (New (record { tab = who.tab; ord = who.ord + 1 })) else Err U3)
@@ -146,63 +146,63 @@ go_seen who next origin page is = rw is (by_tests (bytes_eq page.origin origin) 
     by_tests false true = refl
     by_tests false false = refl
 
-go_at_seen : (T : Tabs) (t : TabTable) (who : Instance) (r : Result Page Rule) → Shows T t → live_at t who.tab ≡ Some who → go_at t who r ≡ go_row who (origin_at t who) (next_at t who.tab) r
+go_at_seen : (T : Tabs) (t : TabTable) (who : Instance) (r : Result Page Rule) → TabsStand T t → live_at t who.tab ≡ Some who → go_at t who r ≡ go_outcome who (origin_at t who) (next_at t who.tab) r
 go_at_seen T t who (Err rule) shows lives = refl
 go_at_seen T t who (Ok page) shows lives =
     go_seen who (next_at t who.tab) (origin_at t who) page (ap (λ n. record { tab = who.tab; ord = n }) (sym (shows.newest who.tab who lives)))
 
-enter_at_seen : (T : Tabs) (t : TabTable) (r : Result Page Rule) → Shows T t → (active : Option Instance) → active_in t ≡ active → enter_at t active r ≡ enter_seen t active r
+enter_at_seen : (T : Tabs) (t : TabTable) (r : Result Page Rule) → TabsStand T t → (active : Option Instance) → active_in t ≡ active → enter_at t active r ≡ enter_seen t active r
 enter_at_seen T t r shows None is = refl
 enter_at_seen T t r shows (Some who) is = go_at_seen T t who r shows (active_lives t who is)
 
-pub row-seen : (J : Journal) (t : Parts) (act : Act) → Holds J t → row t act ≡ row_seen t act
-row-seen J t (Start tab url) stands = start_seen (seat_at t.tabs tab).page tab (seat_at t.tabs tab).count (allowed t.hosts url)
-row-seen J t (Switch tab) stands = switch_seen (seat_at t.tabs tab).page tab (seat_at t.tabs tab).count
-row-seen J t (Close tab) stands = refl
-row-seen J t (Press (Byte byte)) stands = refl
-row-seen J t (Press Back) stands = refl
-row-seen J t (Press Enter) stands = ap (λ (row : Outcome). if is_entry t.focus.spot then row else page_key_row (active_in t.tabs) Enter)
-    (enter_at_seen (tabs t.hosts J) t.tabs (allowed t.hosts t.focus.entry) stands.shown (active_in t.tabs) refl)
-row-seen J t (Click r c) stands = refl
-row-seen J t Look stands = refl
-row-seen J t (Draw who r c height width pixels) stands = refl
-row-seen J t (Go who url) stands = let_in_same t.tabs who (go_at t.tabs who (allowed t.hosts url)) (go_row who (origin_at t.tabs who) (next_at t.tabs who.tab) (allowed t.hosts url)) (go_at_seen (tabs t.hosts J) t.tabs who (allowed t.hosts url) stands.shown)
-row-seen J t (CookieSet side who text) stands = refl
-row-seen J t (CookieGet side who) stands = refl
+pub outcome-seen : (J : Journal) (t : Parts) (act : Act) → Holds J t → outcome_by t act ≡ outcome_seen t act
+outcome-seen J t (Start tab url) stands = start_seen (seat_at t.tabs tab).page tab (seat_at t.tabs tab).count (allowed t.hosts url)
+outcome-seen J t (Switch tab) stands = switch_seen (seat_at t.tabs tab).page tab (seat_at t.tabs tab).count
+outcome-seen J t (Close tab) stands = refl
+outcome-seen J t (Press (Byte byte)) stands = refl
+outcome-seen J t (Press Back) stands = refl
+outcome-seen J t (Press Enter) stands = ap (λ (row : Outcome). if is_entry t.focus.spot then row else page_key_outcome (active_in t.tabs) Enter)
+    (enter_at_seen (tabs t.hosts J) t.tabs (allowed t.hosts t.focus.entry_line) stands.tabs (active_in t.tabs) refl)
+outcome-seen J t (Click r c) stands = refl
+outcome-seen J t Look stands = refl
+outcome-seen J t (Draw who r c height width pixels) stands = refl
+outcome-seen J t (Go who url) stands = let_in_same t.tabs who (go_at t.tabs who (allowed t.hosts url)) (go_outcome who (origin_at t.tabs who) (next_at t.tabs who.tab) (allowed t.hosts url)) (go_at_seen (tabs t.hosts J) t.tabs who (allowed t.hosts url) stands.tabs)
+outcome-seen J t (CookieSet side who text) stands = refl
+outcome-seen J t (CookieGet side who) stands = refl
 
 -- what is seen is the journal's screen
-pub seen_screen : (J : Journal) (t : Parts) → Holds J t → (r c : ℕ) → r < 25 → c < 80 → seen_at t.frames r c ≡ screen t.hosts J r c
-seen_screen J t stands = seen_same J t stands.displays stands.shown (active_same J t stands) (λ who. active_lives t.tabs who)
+pub seen_screen : (J : Journal) (t : Parts) → Holds J t → (r c : ℕ) → r < 25 → c < 80 → seen_at t.screen r c ≡ screen t.hosts J r c
+seen_screen J t stands = seen_same J t stands.displays stands.tabs (active_same J t stands) (λ who. active_lives t.tabs who)
 
 -- Enter by the journal
-enter_stands : (T : Tabs) (t : TabTable) (r : Result Page Rule) → Shows T t → (active : Option Instance) → active_in t ≡ active → enter_seen t active r ≡ enter_row T active r
+enter_stands : (T : Tabs) (t : TabTable) (r : Result Page Rule) → TabsStand T t → (active : Option Instance) → active_in t ≡ active → enter_seen t active r ≡ enter_outcome T active r
 enter_stands T t r shows None is = refl
 enter_stands T t r shows (Some who) is = rw (shows.origin who (active_lives t who is), shows.count who.tab) refl
 
 press_stands : (J : Journal) (t : Parts) (key : Key) → Holds J t → press_seen t.hosts t.tabs t.focus key ≡ out t.hosts J (Press key)
-press_stands J t (Byte byte) stands = rw (active_same J t stands, stands.displays.spot, stands.displays.entry) refl
+press_stands J t (Byte byte) stands = rw (active_same J t stands, stands.displays.spot, stands.displays.entry_line) refl
 press_stands J t Back stands = rw (active_same J t stands, stands.displays.spot) refl
-press_stands J t Enter stands = rw (active_same J t stands, stands.displays.spot, stands.displays.entry)
-    (ap (λ (row : Outcome). if is_entry t.focus.spot then row else page_key_row (active_in t.tabs) Enter)
-    (enter_stands (tabs t.hosts J) t.tabs (allowed t.hosts t.focus.entry) stands.shown (active_in t.tabs) refl))
+press_stands J t Enter stands = rw (active_same J t stands, stands.displays.spot, stands.displays.entry_line)
+    (ap (λ (row : Outcome). if is_entry t.focus.spot then row else page_key_outcome (active_in t.tabs) Enter)
+    (enter_stands (tabs t.hosts J) t.tabs (allowed t.hosts t.focus.entry_line) stands.tabs (active_in t.tabs) refl))
 
-pub row_stands : (J : Journal) (t : Parts) (act : Act) → Holds J t → row_seen t act ≡ out t.hosts J act
-row_stands J t (Start tab url) stands = rw (stands.shown.live tab, stands.shown.count tab) refl
-row_stands J t (Switch tab) stands = rw (stands.shown.live tab) refl
-row_stands J t (Close tab) stands = rw (stands.shown.live tab) refl
-row_stands J t (Press key) stands = press_stands J t key stands
-row_stands J t (Click r c) stands = rw (active_same J t stands) refl
-row_stands J t Look stands = looks_same (seen_at t.frames) (screen t.hosts J) (seen_screen J t stands)
-row_stands J t (Draw who r c height width pixels) stands = sym (let_in_by (tabs t.hosts J) t.tabs who (draw_row r c height width pixels) stands.shown)
-row_stands J t (Go who url) stands =
-    let_in_same t.tabs who (go_row who (origin_at t.tabs who) (next_at t.tabs who.tab) (allowed t.hosts url)) (go_row who (origin_of t.hosts J who) (next_in (tabs t.hosts J) who.tab) (allowed t.hosts url))
-    (λ lives. rw (stands.shown.origin who lives, stands.shown.count who.tab) refl)
-    ∙ sym (let_in_by (tabs t.hosts J) t.tabs who (go_row who (origin_of t.hosts J who) (next_in (tabs t.hosts J) who.tab) (allowed t.hosts url)) stands.shown)
-row_stands J t (CookieSet side who text) stands =
-    let_in_same t.tabs who (answer (set_breaks text (jar_of t.jars (origin_at t.tabs who)))) (set_row text (sets_of t.hosts J (origin_of t.hosts J who)))
-    (λ lives. rw (stands.shown.origin who lives) (ap (λ cookies. answer (set_breaks text cookies)) (stands.jars (origin_at t.tabs who))))
-    ∙ sym (let_in_by (tabs t.hosts J) t.tabs who (set_row text (sets_of t.hosts J (origin_of t.hosts J who))) stands.shown)
-row_stands J t (CookieGet side who) stands =
-    let_in_same t.tabs who (get_at t.jars (origin_at t.tabs who) who) (get_row who (sets_of t.hosts J (origin_of t.hosts J who)))
-    (λ lives. rw (stands.shown.origin who lives) (ap (λ (cookies : List Cookie). accepted (Cookies who (jar_text cookies) ∷ [])) (stands.jars (origin_at t.tabs who))))
-    ∙ sym (let_in_by (tabs t.hosts J) t.tabs who (get_row who (sets_of t.hosts J (origin_of t.hosts J who))) stands.shown)
+pub outcome_stands : (J : Journal) (t : Parts) (act : Act) → Holds J t → outcome_seen t act ≡ out t.hosts J act
+outcome_stands J t (Start tab url) stands = rw (stands.tabs.live tab, stands.tabs.count tab) refl
+outcome_stands J t (Switch tab) stands = rw (stands.tabs.live tab) refl
+outcome_stands J t (Close tab) stands = rw (stands.tabs.live tab) refl
+outcome_stands J t (Press key) stands = press_stands J t key stands
+outcome_stands J t (Click r c) stands = rw (active_same J t stands) refl
+outcome_stands J t Look stands = looks_same (seen_at t.screen) (screen t.hosts J) (seen_screen J t stands)
+outcome_stands J t (Draw who r c height width pixels) stands = sym (let_in_by (tabs t.hosts J) t.tabs who (draw_outcome r c height width pixels) stands.tabs)
+outcome_stands J t (Go who url) stands =
+    let_in_same t.tabs who (go_outcome who (origin_at t.tabs who) (next_at t.tabs who.tab) (allowed t.hosts url)) (go_outcome who (origin_of t.hosts J who) (next_in (tabs t.hosts J) who.tab) (allowed t.hosts url))
+    (λ lives. rw (stands.tabs.origin who lives, stands.tabs.count who.tab) refl)
+    ∙ sym (let_in_by (tabs t.hosts J) t.tabs who (go_outcome who (origin_of t.hosts J who) (next_in (tabs t.hosts J) who.tab) (allowed t.hosts url)) stands.tabs)
+outcome_stands J t (CookieSet side who text) stands =
+    let_in_same t.tabs who (answer (set_breaks text (jar_of t.jars (origin_at t.tabs who)))) (set_outcome text (sets_of t.hosts J (origin_of t.hosts J who)))
+    (λ lives. rw (stands.tabs.origin who lives) (ap (λ cookies. answer (set_breaks text cookies)) (stands.jars (origin_at t.tabs who))))
+    ∙ sym (let_in_by (tabs t.hosts J) t.tabs who (set_outcome text (sets_of t.hosts J (origin_of t.hosts J who))) stands.tabs)
+outcome_stands J t (CookieGet side who) stands =
+    let_in_same t.tabs who (get_at t.jars (origin_at t.tabs who) who) (get_outcome who (sets_of t.hosts J (origin_of t.hosts J who)))
+    (λ lives. rw (stands.tabs.origin who lives) (ap (λ (cookies : List Cookie). accepted (Cookies who (jar_text cookies) ∷ [])) (stands.jars (origin_at t.tabs who))))
+    ∙ sym (let_in_by (tabs t.hosts J) t.tabs who (get_outcome who (sets_of t.hosts J (origin_of t.hosts J who))) stands.tabs)

@@ -3,10 +3,10 @@ use Rattle.std.proofs.Common.{◌≡◌, ◌≢◌, ℕ, zero, suc, ◌<◌, Lis
 use Rattle.ibos_kinds.specs.Screens.{padded}
 use Rattle.ibos_page.specs.Tabs.{TabTable}
 use Rattle.ibos_focus.specs.Focused.{Focused}
-use Rattle.ibos_frame.specs.Frames.{Frames, chrome_at}
+use Rattle.ibos_frame.specs.ScreenStates.{ScreenState, chrome_at}
 use Rattle.ibos_kernel.specs.Tables.{chrome_by}
 
-pub rows_composed : (t : TabTable) (focus : Focused) (one two three : Frames) (a b d : List ℕ)
+pub rows_composed : (t : TabTable) (focus : Focused) (one two three : ScreenState) (a b d : List ℕ)
     → chrome_at one 0 ≡ padded a → a ≡ chrome_by t focus 0
     → chrome_at two 1 ≡ padded b → b ≡ chrome_by t focus 1 → ((r : ℕ) → r < 3 → r ≢ 1 → chrome_at two r ≡ chrome_at one r)
     → chrome_at three 2 ≡ padded d → d ≡ chrome_by t focus 2 → ((r : ℕ) → r < 3 → r ≢ 2 → chrome_at three r ≡ chrome_at two r)

@@ -10,9 +10,9 @@ use Rattle.ibos_model.specs.Focus.{focus_of}
 use Rattle.ibos_model.specs.Tabs.{Tabs, Change, Opens, Moves, Ends, changed, changes, tabs, Unborn, Gone, Alive, life_with, origin_with}
 use Rattle.ibos_model.specs.Facts.{Suits}
 use Rattle.ibos_model.specs.Runs.{IsRun}
-use Rattle.ibos_model.proofs.Folds.{same-true}
+use Rattle.ibos_model.proofs.Equalities.{same-true}
 use Rattle.ibos_model.proofs.ChangeFolds.{changed_by_keeps}
-use Rattle.ibos_model.proofs.Due.{IsSound, Allows, changed_sound, next_ord, tabs_sound, entry_due}
+use Rattle.ibos_model.proofs.ChangesDue.{IsSound, Allows, changed_sound, next_ord, tabs_sound, entry_due}
 
 -- a page stays
 record Stays (p : Instance) (x : Page) (t : Tabs) : Type 0 where

@@ -10,11 +10,11 @@ use Rattle.ibos_page.specs.Tabs.{TabTable, seat_at, live_at, live_in, is_live_in
 use Rattle.ibos_model.specs.Journal.{same}
 use Rattle.ibos_model.specs.Tabs.{Tabs, Change, Opens, Moves, Ends, Life, Unborn, Alive, Gone, changed, no_tabs, next_in, life_in, life_with, origin_in}
 use Rattle.ibos_kernel.specs.Tables.{origin_at, url_with}
-use Rattle.ibos_kernel.specs.Standing.{Shows, life_by, life_at}
+use Rattle.ibos_kernel.specs.Standing.{TabsStand, life_by, life_at}
 
 -- no tab has had an instance
-pub none_shown : (t : TabTable) → length t.seats ≡ 64 → ((tab : ℕ) → seat_at t tab ≡ empty_seat) → Shows no_tabs t
-none_shown t room empty = record {
+pub none_stand : (t : TabTable) → length t.seats ≡ 64 → ((tab : ℕ) → seat_at t tab ≡ empty_seat) → TabsStand no_tabs t
+none_stand t room empty = record {
   room = room;
   count = λ tab. rw (empty tab) refl;
   live = λ tab. rw (empty tab) refl;
@@ -55,9 +55,9 @@ life_opened T who seat page p free next life fresh here = by_same (same who p) r
         let ord : p.ord ≢ seat.count = λ e. grind (arith, nat_tests, e, next, here, it) in
         life p here ∙ grind (arith, nat_tests, free, ord)
 
-pub opens_shown : (T : Tabs) (t : TabTable) (tab : ℕ) (page : Page) → Shows T t → tab < 64 → (seat_at t tab).page ≡ None
-    → Shows (changed T (Opens (next_in T tab) page)) (with_seat t tab (opened page (seat_at t tab)))
-opens_shown T t tab page shows within free =
+pub opens_stand : (T : Tabs) (t : TabTable) (tab : ℕ) (page : Page) → TabsStand T t → tab < 64 → (seat_at t tab).page ≡ None
+    → TabsStand (changed T (Opens (next_in T tab) page)) (with_seat t tab (opened page (seat_at t tab)))
+opens_stand T t tab page shows within free =
     let seat = seat_at t tab in
     let law : (other : ℕ) → seat_at (with_seat t tab (opened page seat)) other ≡ (if other == tab then opened page seat else seat_at t other) = λ other. seat-with t tab other (opened page seat) shows.room within in
     record {
@@ -126,9 +126,9 @@ life_ended T who p seat there newest life here = by_same (same who p) refl
         let ord : p.ord + 1 ≢ seat.count = λ e. grind (arith, nat_tests, e, newest, here, it) in
         life ∙ grind (arith, nat_tests, there, ord)
 
-pub ends_shown : (T : Tabs) (t : TabTable) (tab : ℕ) (who : Instance) → Shows T t → tab < 64 → live_at t tab ≡ Some who
-    → Shows (changed T (Ends who)) (with_seat t tab (closed (seat_at t tab)))
-ends_shown T t tab who shows within lives =
+pub ends_stand : (T : Tabs) (t : TabTable) (tab : ℕ) (who : Instance) → TabsStand T t → tab < 64 → live_at t tab ≡ Some who
+    → TabsStand (changed T (Ends who)) (with_seat t tab (closed (seat_at t tab)))
+ends_stand T t tab who shows within lives =
     let seat = seat_at t tab in
     let law : (other : ℕ) → seat_at (with_seat t tab (closed seat)) other ≡ (if other == tab then closed seat else seat_at t other) = λ other. seat-with t tab other (closed seat) shows.room within in
     record {
@@ -174,9 +174,9 @@ live_moved : (tab ord : ℕ) (old : Option Page) (page : Page) → is_some old �
 live_moved tab ord None page there = cc
 live_moved tab ord (Some old) page there = refl
 
-pub moves_shown : (T : Tabs) (t : TabTable) (who : Instance) (page : Page) → Shows T t → who.tab < 64 → live_at t who.tab ≡ Some who → page.origin ≡ origin_at t who
-    → Shows (changed T (Moves who page.url)) (with_seat t who.tab (moved page (seat_at t who.tab)))
-moves_shown T t who page shows within lives same_origin =
+pub moves_stand : (T : Tabs) (t : TabTable) (who : Instance) (page : Page) → TabsStand T t → who.tab < 64 → live_at t who.tab ≡ Some who → page.origin ≡ origin_at t who
+    → TabsStand (changed T (Moves who page.url)) (with_seat t who.tab (moved page (seat_at t who.tab)))
+moves_stand T t who page shows within lives same_origin =
     let law : (other : ℕ) → seat_at (with_seat t who.tab (moved page seat)) other ≡ (if other == who.tab then moved page seat else seat_at t other) = λ other. seat-with t who.tab other (moved page seat) shows.room within in
     record {
       room = length-set t.seats who.tab (moved page seat) ∙ shows.room;

@@ -5,16 +5,16 @@ use Rattle.std.proofs.lemmas.Bool.Decides.{nat_tests}
 use Rattle.ibos_kinds.specs.declared.names.Instance.{Instance}
 use Rattle.ibos_kinds.specs.Screens.{chrome_rows, space, padded}
 use Rattle.ibos_page.specs.Tabs.{TabTable, seat_at, live_at, active_in}
-use Rattle.ibos_frame.specs.Frames.{Frames, chrome_at, content_of, content_at, pixel_in, shown_content, seen_at}
+use Rattle.ibos_frame.specs.ScreenStates.{ScreenState, chrome_at, content_of, content_at, pixel_in, shown_content, seen_at}
 use Rattle.ibos_model.specs.Journal.{Journal}
 use Rattle.ibos_model.specs.Focus.{focus_of}
 use Rattle.ibos_model.specs.Tabs.{Tabs, tabs, active_of}
 use Rattle.ibos_model.specs.Screen.{bar_of, bar_text, chrome_in, chrome_of, cell_of, content_cell, screen, cells_from, seen_row, trimmed}
-use Rattle.ibos_model.specs.Rows.{rows_from, look_row}
+use Rattle.ibos_model.specs.Outcomes.{rows_from, look_outcome}
 use Rattle.ibos_kinds.specs.declared.outcome.Item.TheVariants.{RowIs}
 use Rattle.ibos_kernel.specs.Tables.{Parts, IsTied, bar_at, chrome_by, is_entry, is_live, url_with}
-use Rattle.ibos_kernel.specs.Standing.{Shows, Displays}
-use Rattle.ibos_kernel.proofs.Shown.{page_there}
+use Rattle.ibos_kernel.specs.Standing.{TabsStand, Displays}
+use Rattle.ibos_kernel.proofs.TabsStanding.{page_there}
 
 -- ---- looks at equal cells
 
@@ -36,22 +36,22 @@ rows_same r (suc n) f g same =
     let rest = rows_same (r + 1) n f g (λ k h. same k (omega (arith, h))) in
     rw (first, rest) refl
 
-pub looks_same : (f g : ℕ → ℕ → ℕ) → ((r c : ℕ) → r < 25 → c < 80 → f r c ≡ g r c) → look_row (seen_row f) ≡ look_row (seen_row g)
+pub looks_same : (f g : ℕ → ℕ → ℕ) → ((r c : ℕ) → r < 25 → c < 80 → f r c ≡ g r c) → look_outcome (seen_row f) ≡ look_outcome (seen_row g)
 looks_same f g same =
     let rows = rows_same 0 25 (seen_row f) (seen_row g) (λ r h. row_same f g r (λ c within. same r c h within)) in
     rw rows refl
 
 -- ---- the screen
 
-bar_same : (T : Tabs) (t : TabTable) → Shows T t → (active : Option Instance) → ((who : Instance) → active ≡ Some who → live_at t who.tab ≡ Some who) → bar_at t active ≡ bar_of T active
+bar_same : (T : Tabs) (t : TabTable) → TabsStand T t → (active : Option Instance) → ((who : Instance) → active ≡ Some who → live_at t who.tab ≡ Some who) → bar_at t active ≡ bar_of T active
 bar_same T t shows None lives = refl
 bar_same T t shows (Some who) lives = ap bar_text (sym (shows.url who (lives who refl)))
 
-pub chrome_same : (J : Journal) (t : Parts) (T : Tabs) → Displays J t → Shows T t.tabs → option_and_then T.live (focus_of J).tab ≡ active_in t.tabs
+pub chrome_same : (J : Journal) (t : Parts) (T : Tabs) → Displays J t → TabsStand T t.tabs → option_and_then T.live (focus_of J).tab ≡ active_in t.tabs
     → ((who : Instance) → active_in t.tabs ≡ Some who → live_at t.tabs who.tab ≡ Some who) → (r : ℕ) → chrome_by t.tabs t.focus r ≡ chrome_in T (focus_of J) r
 chrome_same J t T displays shows active lives zero = rw (active, displays.spot) refl
 chrome_same J t T displays shows active lives (suc zero) = rw active (bar_same T t.tabs shows (active_in t.tabs) lives)
-chrome_same J t T displays shows active lives (suc (suc r)) = rw displays.entry refl
+chrome_same J t T displays shows active lives (suc (suc r)) = rw displays.entry_line refl
 
 -- a tab's live instance is one that lives
 pub live_is : (t : TabTable) (who : Instance) → who.ord + 1 ≡ (seat_at t who.tab).count → live_at t who.tab ≡ Some who → is_live t who ≡ true
@@ -60,19 +60,19 @@ live_is t who newest lives =
     grind (arith, nat_tests, there, newest)
 
 content_same : (J : Journal) (t : Parts) → Displays J t → (active : Option Instance) → ((who : Instance) → active ≡ Some who → live_at t.tabs who.tab ≡ Some who)
-    → (r c : ℕ) → r < 22 → c < 80 → pixel_in (option_and_then (content_of t.frames) active) r c ≡ content_cell J active r c
+    → (r c : ℕ) → r < 22 → c < 80 → pixel_in (option_and_then (content_of t.screen) active) r c ≡ content_cell J active r c
 content_same J t displays None lives r c low left = refl
 content_same J t displays (Some who) lives r c low left =
     let here = lives who refl in
     displays.cells who r c low left (live_is t.tabs who (displays.tied.beside.newest who.tab who here) here)
 
-pub seen_same : (J : Journal) (t : Parts) → Displays J t → Shows (tabs t.hosts J) t.tabs → active_of t.hosts J ≡ active_in t.tabs
-    → ((who : Instance) → active_in t.tabs ≡ Some who → live_at t.tabs who.tab ≡ Some who) → (r c : ℕ) → r < 25 → c < 80 → seen_at t.frames r c ≡ screen t.hosts J r c
+pub seen_same : (J : Journal) (t : Parts) → Displays J t → TabsStand (tabs t.hosts J) t.tabs → active_of t.hosts J ≡ active_in t.tabs
+    → ((who : Instance) → active_in t.tabs ≡ Some who → live_at t.tabs who.tab ≡ Some who) → (r c : ℕ) → r < 25 → c < 80 → seen_at t.screen r c ≡ screen t.hosts J r c
 unfolding seen_at screen
 seen_same J t displays shows active lives r c low left = by_test (nat_lt r 3) refl
   where
     by_test : (top : Bool) → nat_lt r 3 ≡ top
-        → (if top then slice_index (chrome_at t.frames r) c else pixel_in (shown_content t.frames) (r - chrome_rows) c)
+        → (if top then slice_index (chrome_at t.screen r) c else pixel_in (shown_content t.screen) (r - chrome_rows) c)
         ≡ (if top then slice_index (padded (chrome_of t.hosts J r)) c else content_cell J (active_of t.hosts J) (r - chrome_rows) c)
     by_test true is =
         let within : r < 3 = grind (arith, nat_tests) in

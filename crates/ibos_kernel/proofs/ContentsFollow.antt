@@ -11,11 +11,11 @@ use Rattle.ibos_page.specs.Seats.{Seat}
 use Rattle.ibos_page.specs.Tabs.{TabTable, seat_at, live_at, next_at, start_in, go_in, origin_with, is_live_in, opened, with_seat}
 use Rattle.ibos_page.specs.declared.tabs.Moved.{Moved}
 use Rattle.ibos_page.specs.declared.tabs.Moved.TheVariants.{Same, New}
-use Rattle.ibos_frame.specs.Frames.{Frames, content_of, content_at, is_open}
+use Rattle.ibos_frame.specs.ScreenStates.{ScreenState, content_of, content_at, is_open}
 use Rattle.ibos_model.specs.Journal.{same}
 use Rattle.ibos_kernel.specs.Tables.{IsBeside, Follows, is_live}
-use Rattle.ibos_kernel.proofs.Shown.{seat-with, page_there}
-use Rattle.ibos_kernel.proofs.Displayed.{active_within}
+use Rattle.ibos_kernel.proofs.TabsStanding.{seat-with, page_there}
+use Rattle.ibos_kernel.proofs.ScreenStands.{active_within}
 
 -- the test tells when two instances are one
 same-true : (p q : Instance) → same p q ≡ true → p ≡ q
@@ -74,7 +74,7 @@ live_opened t tab page q room within free = rw (seat-with t tab q.tab (opened pa
 next_not_live : (t : TabTable) (tab : ℕ) → (seat_at t tab).page ≡ None → is_live t (next_at t tab) ≡ false
 next_not_live t tab free = rw free refl
 
-next_follows : (t : TabTable) (tab : ℕ) (page : Page) (f g : Frames) → IsBeside t f → tab < 64 → (seat_at t tab).page ≡ None
+next_follows : (t : TabTable) (tab : ℕ) (page : Page) (f g : ScreenState) → IsBeside t f → tab < 64 → (seat_at t tab).page ≡ None
     → is_open g (next_at t tab) ≡ true → ((r c : ℕ) → r < 22 → c < 80 → content_at g (next_at t tab) r c ≡ space)
     → ((q : Instance) → q ≢ next_at t tab → content_of g q ≡ content_of f q)
     → Follows t (record (with_seat t tab (opened page (seat_at t tab))) { active = Some tab }) f g
@@ -104,7 +104,7 @@ next_follows t tab page f g beside within free begun blank others = record {
         let still : is_live t q ≡ true = sym (law q ∙ ap (λ b. if b then true else is_live t q) other) ∙ now in
         absurd (clash (is_live t q) still was)
 
-pub follows_started : (t : TabTable) (tab : ℕ) (page : Page) (who : Instance) (f g : Frames) → next_at t tab ≡ who → IsBeside t f → tab < 64 → (seat_at t tab).page ≡ None
+pub follows_started : (t : TabTable) (tab : ℕ) (page : Page) (who : Instance) (f g : ScreenState) → next_at t tab ≡ who → IsBeside t f → tab < 64 → (seat_at t tab).page ≡ None
     → is_open g who ≡ true → ((r c : ℕ) → r < 22 → c < 80 → content_at g who r c ≡ space)
     → ((q : Instance) → q ≢ who → content_of g q ≡ content_of f q)
     → Follows t (record (with_seat t tab (opened page (seat_at t tab))) { active = Some tab }) f g
@@ -123,7 +123,7 @@ live_replaced t who page q room within there newest = rw (seat-with t who.tab q.
     by_tab true here = let e : q.tab ≡ who.tab = grind (arith, nat_tests) in rw e (grind (arith, nat_tests, there, here, newest))
     by_tab false here = grind (arith, nat_tests, here)
 
-after_follows : (t : TabTable) (who : Instance) (page : Page) (f h g : Frames) → IsBeside t f → live_at t who.tab ≡ Some who
+after_follows : (t : TabTable) (who : Instance) (page : Page) (f h g : ScreenState) → IsBeside t f → live_at t who.tab ≡ Some who
     → is_open h who ≡ false → ((q : Instance) → q ≢ who → content_of h q ≡ content_of f q)
     → is_open g (record { tab = who.tab; ord = who.ord + 1 }) ≡ true → ((r c : ℕ) → r < 22 → c < 80 → content_at g (record { tab = who.tab; ord = who.ord + 1 }) r c ≡ space)
     → ((q : Instance) → q ≢ record { tab = who.tab; ord = who.ord + 1 } → content_of g q ≡ content_of h q)
@@ -186,7 +186,7 @@ after_follows t who page f h g beside lives ended kept begun blank others = reco
     blank_by q r c low left was now false is_new true is_old = absurd (clash _ now (law_by q false true is_new is_old))
     blank_by q r c low left was now false is_new false is_old = absurd (clash (is_live t q) (sym (law_by q false false is_new is_old) ∙ now) was)
 
-pub follows_replaced : (t : TabTable) (who : Instance) (page : Page) (next : Instance) (f h g : Frames) → record { tab = who.tab; ord = who.ord + 1 } ≡ next → IsBeside t f → live_at t who.tab ≡ Some who
+pub follows_replaced : (t : TabTable) (who : Instance) (page : Page) (next : Instance) (f h g : ScreenState) → record { tab = who.tab; ord = who.ord + 1 } ≡ next → IsBeside t f → live_at t who.tab ≡ Some who
     → is_open h who ≡ false → ((q : Instance) → q ≢ who → content_of h q ≡ content_of f q)
     → is_open g next ≡ true → ((r c : ℕ) → r < 22 → c < 80 → content_at g next r c ≡ space)
     → ((q : Instance) → q ≢ next → content_of g q ≡ content_of h q)

@@ -11,11 +11,11 @@ use Rattle.ibos_origin.specs.Pages.{Page, allowed}
 use Rattle.ibos_origin.specs.Tables.{HasPlainNames}
 use Rattle.ibos_model.specs.Journal.{Journal, is_accepted, same}
 use Rattle.ibos_model.specs.Tabs.{Tabs, Change, Opens, Moves, Ends, changed, tabs, origin_with, origin_in}
-use Rattle.ibos_model.specs.Screen.{shown_byte, bar_text, bar_of}
+use Rattle.ibos_model.specs.Screen.{chrome_byte, bar_text, bar_of}
 use Rattle.ibos_model.specs.Laws.{IsOriginShown}
-use Rattle.ibos_model.proofs.Folds.{same-true}
+use Rattle.ibos_model.proofs.Equalities.{same-true}
 use Rattle.ibos_model.proofs.ChangeFolds.{tabs_keep}
-use Rattle.ibos_model.proofs.Due.{MayShow, IsDue, changes_due}
+use Rattle.ibos_model.proofs.ChangesDue.{MayShow, IsDue, changes_due}
 
 -- the URL begins with the origin, which has at most 72 bytes, and these are printable
 abbrev Fits : List ℕ → List ℕ → Type 0
@@ -85,11 +85,11 @@ either_fits o rest true h =
     (part.0 ++ codes ">", ap (λ t. t ++ codes ">") part.1 ∙ append_assoc o part.0 (codes ">"))
 
 -- a printable text is shown as it is
-shown_whole : (o : List ℕ) → list_all is_pixel o ≡ true → map shown_byte o ≡ o
+shown_whole : (o : List ℕ) → list_all is_pixel o ≡ true → map chrome_byte o ≡ o
 shown_whole [] is = refl
 shown_whole (b ∷ o) is = by_first (is_pixel b) refl (λ rest. shown_whole o rest) is
   where
-    by_first : (first : Bool) → is_pixel b ≡ first → (list_all is_pixel o ≡ true → map shown_byte o ≡ o) → (first && list_all is_pixel o) ≡ true → shown_byte b ∷ map shown_byte o ≡ b ∷ o
+    by_first : (first : Bool) → is_pixel b ≡ first → (list_all is_pixel o ≡ true → map chrome_byte o ≡ o) → (first && list_all is_pixel o) ≡ true → chrome_byte b ∷ map chrome_byte o ≡ b ∷ o
     by_first true h others rest = rw (h, others rest) refl
     by_first false h others rest = cc
 
@@ -98,9 +98,9 @@ unfolding bar_text
 bar_begins o url fits =
     let rest = fits.0.0.0 in
     let part = either_fits o rest (nat_lt columns (length (o ++ rest))) (short o fits.0.1) in
-    ap (λ (u : List ℕ). take (length o) (map shown_byte (if nat_lt columns (length u) then take 79 u ++ codes ">" else u))) fits.0.0.1
-    ∙ ap (λ (u : List ℕ). take (length o) (map shown_byte u)) part.1
-    ∙ front shown_byte o part.0
+    ap (λ (u : List ℕ). take (length o) (map chrome_byte (if nat_lt columns (length u) then take 79 u ++ codes ">" else u))) fits.0.0.1
+    ∙ ap (λ (u : List ℕ). take (length o) (map chrome_byte u)) part.1
+    ∙ front chrome_byte o part.0
     ∙ shown_whole o fits.1
 
 pub origin_shown : UrlLaws → IsOriginShown

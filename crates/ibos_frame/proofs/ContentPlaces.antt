@@ -5,7 +5,7 @@ use Rattle.std.proofs.lemmas.Bool.Decides.{nat_tests}
 use Rattle.std.proofs.lemmas.List.{get_or-set_same, get_or-set_other, get_or_read}
 use Rattle.std.proofs.Math.ListN.{get_or-eq_default}
 use Rattle.ibos_kinds.specs.declared.names.Instance.{Instance}
-use Rattle.ibos_frame.specs.Frames.{place_of, content_in}
+use Rattle.ibos_frame.specs.ScreenStates.{place_of, content_in}
 
 -- what stands at an instance's place
 pub content-at : (contents : List (Option (List ℕ))) (who : Instance) → who.tab < 256 → content_in contents who ≡ get_or contents (place_of who) None

@@ -16,17 +16,17 @@ use Rattle.ibos_kinds.specs.Screens.{space, cell_after as drawn_cell}
 use Rattle.ibos_origin.specs.Pages.{Page, allowed}
 use Rattle.ibos_page.specs.Seats.{Seat}
 use Rattle.ibos_page.specs.Tabs.{TabTable, seat_at, live_at, live_in, active_in, next_at, is_live_in, admission, empty_seat, opened, moved, closed, with_seat}
-use Rattle.ibos_frame.specs.Frames.{content_at}
+use Rattle.ibos_frame.specs.ScreenStates.{content_at}
 use Rattle.ibos_model.specs.Journal.{Journal, is_ok, same}
-use Rattle.ibos_model.specs.Focus.{focus_of, at_entry_by}
+use Rattle.ibos_model.specs.Focus.{focus_of, at_entry_line_by}
 use Rattle.ibos_model.specs.Screen.{cell_of, cell_by}
-use Rattle.ibos_model.specs.Rows.{denied, open_row, start_row, close_row, go_row, draw_row, page_key_row}
+use Rattle.ibos_model.specs.Outcomes.{denied, open_outcome, start_outcome, close_outcome, go_outcome, draw_outcome, page_key_outcome}
 use Rattle.ibos_kernel.specs.Tables.{Parts, IsTied, is_entry, is_live, spot_of, origin_at, let_in, with_started, with_gone, with_entered, tabs_after, Serves}
 use Rattle.ibos_kernel.specs.Standing.{Holds, Displays, entry}
-use Rattle.ibos_kernel.proofs.Shown.{seat-with, page_there}
-use Rattle.ibos_kernel.proofs.Rows.{row_seen, lives_if, enter_seen, active_lives}
+use Rattle.ibos_kernel.proofs.TabsStanding.{seat-with, page_there}
+use Rattle.ibos_kernel.proofs.Outcomes.{outcome_seen, lives_if, enter_seen, active_lives}
 
-pub start_page : (live : Option Instance) (next : Instance) (r : Result Page Rule) → is_ok (start_row live next r).head ≡ true → (page : Page) × (r ≡ Ok page)
+pub start_page : (live : Option Instance) (next : Instance) (r : Result Page Rule) → is_ok (start_outcome live next r).head ≡ true → (page : Page) × (r ≡ Ok page)
 start_page (Some who) next r ok = absurd (cc ok)
 start_page None next (Ok page) ok = (page, refl)
 start_page None next (Err rule) ok = absurd (denied_either (nat_lt next.ord 32) ok)
@@ -117,7 +117,7 @@ entered_grows : (t : TabTable) (active : Option Instance) (r : Result Page Rule)
 entered_grows t None r room lives = stays t
 entered_grows t (Some who) r room lives = gone_grows t who r room (lives who refl)
 
-tabs_grow : (t : Parts) (act : Act) (outcome : Outcome) → length t.tabs.seats ≡ 64 → Fits act → outcome ≡ row_seen t act → Grows t.tabs (tabs_after t (is_ok outcome.head) act)
+tabs_grow : (t : Parts) (act : Act) (outcome : Outcome) → length t.tabs.seats ≡ 64 → Fits act → outcome ≡ outcome_seen t act → Grows t.tabs (tabs_after t (is_ok outcome.head) act)
 tabs_grow t (Start tab url) outcome room fits is = if_grows t.tabs _ _ (λ ok. started_grows t.tabs tab (allowed t.hosts url) room fits)
 tabs_grow t (Switch tab) outcome room fits is = if_grows t.tabs _ _ (λ ok. record { count = (stays t.tabs).count; fresh = (stays t.tabs).fresh })
 tabs_grow t (Close tab) outcome room fits is = if_grows t.tabs _ _ (λ ok.
@@ -125,7 +125,7 @@ tabs_grow t (Close tab) outcome room fits is = if_grows t.tabs _ _ (λ ok.
     record { count = grows.count; fresh = grows.fresh })
 tabs_grow t (Press (Byte byte)) outcome room fits is = stays t.tabs
 tabs_grow t (Press Back) outcome room fits is = stays t.tabs
-tabs_grow t (Press Enter) outcome room fits is = if_grows t.tabs _ _ (λ ok. entered_grows t.tabs (active_in t.tabs) (allowed t.hosts t.focus.entry) room (active_lives t.tabs))
+tabs_grow t (Press Enter) outcome room fits is = if_grows t.tabs _ _ (λ ok. entered_grows t.tabs (active_in t.tabs) (allowed t.hosts t.focus.entry_line) room (active_lives t.tabs))
 tabs_grow t (Click r c) outcome room fits is = stays t.tabs
 tabs_grow t Look outcome room fits is = stays t.tabs
 tabs_grow t (Go who url) outcome room fits is = if_grows t.tabs _ _ (λ ok.
@@ -141,7 +141,7 @@ entry_of_spot true = refl
 entry_of_spot false = refl
 
 -- an instance that never started drew nothing
-undrawn : (t : Parts) (act : Act) (outcome : Outcome) (q : Instance) (r c : ℕ) → IsTied t.tabs t.frames t.focus → outcome ≡ row_seen t act → (seat_at t.tabs q.tab).count ≤ q.ord
+undrawn : (t : Parts) (act : Act) (outcome : Outcome) (q : Instance) (r c : ℕ) → IsTied t.tabs t.screen t.focus → outcome ≡ outcome_seen t act → (seat_at t.tabs q.tab).count ≤ q.ord
     → cell_by q r c (is_ok outcome.head) act space ≡ space
 undrawn t (Draw who row col height width pixels) outcome q r c tied is past = by_ok (is_ok outcome.head) refl (same who q) refl
   where
@@ -168,14 +168,14 @@ undrawn t (Go who url) outcome q r c tied is past = refl
 undrawn t (CookieSet side who text) outcome q r c tied is past = refl
 undrawn t (CookieGet side who) outcome q r c tied is past = refl
 
-pub step_displays : (J : Journal) (old new : Parts) (act : Act) (outcome : Outcome) → Holds J old → Fits act → Serves old act outcome new → outcome ≡ row_seen old act
+pub step_displays : (J : Journal) (old new : Parts) (act : Act) (outcome : Outcome) → Holds J old → Fits act → Serves old act outcome new → outcome ≡ outcome_seen old act
     → Displays (entry act outcome ∷ J) new
 unfolding focus_of cell_of
-step_displays J old new act outcome stands fits serves told = record {
-  spot = rw (stands.active, stands.displays.spot, serves.focus_is) (sym (entry_of_spot (at_entry_by old.tabs.active (is_ok outcome.head) act (is_entry old.focus.spot))));
-  entry = rw (stands.displays.spot, stands.displays.entry, serves.focus_is) refl;
+step_displays J old new act outcome stands fits serves outcome_is = record {
+  spot = rw (stands.active, stands.displays.spot, serves.focus_is) (sym (entry_of_spot (at_entry_line_by old.tabs.active (is_ok outcome.head) act (is_entry old.focus.spot))));
+  entry_line = rw (stands.displays.spot, stands.displays.entry_line, serves.focus_is) refl;
   cells = λ q r c low left live. serves.cells_are q r c low left live ∙ ap (cell_by q r c (is_ok outcome.head) act) (before q r c low left live (is_live old.tabs q) refl);
-  blank = λ q r c past. rw (old_displays.blank q r c (started_before q past)) (undrawn old act outcome q r c old_displays.tied told (started_before q past));
+  blank = λ q r c past. rw (old_displays.blank q r c (started_before q past)) (undrawn old act outcome q r c old_displays.tied outcome_is (started_before q past));
   tied = serves.tied;
 }
   where
@@ -183,12 +183,12 @@ step_displays J old new act outcome stands fits serves told = record {
     old_displays = stands.displays
 
     grows : Grows old.tabs new.tabs
-    grows = let P : TabTable → Type 0 = Grows old.tabs in subst P (sym serves.tabs_are) (tabs_grow old act outcome old_displays.tied.beside.room fits told)
+    grows = let P : TabTable → Type 0 = Grows old.tabs in subst P (sym serves.tabs_are) (tabs_grow old act outcome old_displays.tied.beside.room fits outcome_is)
 
     started_before : (q : Instance) → (seat_at new.tabs q.tab).count ≤ q.ord → (seat_at old.tabs q.tab).count ≤ q.ord
     started_before q past = let more = grows.count q.tab in omega (arith, more, past)
 
     before : (q : Instance) (r c : ℕ) → r < 22 → c < 80 → is_live new.tabs q ≡ true → (lived : Bool) → is_live old.tabs q ≡ lived
-        → (if lived then content_at old.frames q r c else space) ≡ cell_of J q r c
+        → (if lived then content_at old.screen q r c else space) ≡ cell_of J q r c
     before q r c low left now true was = old_displays.cells q r c low left was
     before q r c low left now false was = sym (old_displays.blank q r c (grows.fresh q now was))

@@ -5,7 +5,7 @@ use Rattle.std.proofs.lemmas.Bool.Decides.{nat_tests}
 use Rattle.std.proofs.lemmas.List.{append-nil, length-append, length-replicate, length-take-le, length-drop, drop_at, drop_all, drop-take, take-take, drop-replicate, take-replicate, get_or-replicate, get_or-take, get_or-drop, get_or_append_left, get_or-append_right}
 use Rattle.std.proofs.lemmas.Slice.{take-put_mid_below, drop-put_mid, between-put_mid}
 use Rattle.ibos_kinds.specs.Screens.{space, padded}
-use Rattle.ibos_frame.specs.Frames.{Frames, shown_content, seen_at, pixel_in, chrome_at}
+use Rattle.ibos_frame.specs.ScreenStates.{ScreenState, shown_content, seen_at, pixel_in, chrome_at}
 use borrow.Rule.Slice.PartMut.{put_mid}
 
 -- a list whose end was written
@@ -60,7 +60,7 @@ pub pixel-blank : (r c : ℕ) → r < 22 → c < 80 → get_or (replicate 1760 s
 pixel-blank r c rows columns = get_or-replicate 1760 (80 * r + c) space 0 (omega (arith, rows, columns))
 
 -- a pixel of the screen: it is one of the chrome, or of the content shown
-pub pixel-seen : (f : Frames) (body : List ℕ) → length f.chrome ≡ 240 → body ≡ unwrap_or (shown_content f) (replicate 1760 space)
+pub pixel-seen : (f : ScreenState) (body : List ℕ) → length f.chrome ≡ 240 → body ≡ unwrap_or (shown_content f) (replicate 1760 space)
     → (r c : ℕ) → r < 25 → c < 80 → get_or (f.chrome ++ body) (80 * r + c) 0 ≡ seen_at f r c
 unfolding seen_at
 pixel-seen f body count is r c rows columns = by_row (nat_lt r 3) refl

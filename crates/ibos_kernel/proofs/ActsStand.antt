@@ -25,45 +25,45 @@ use Rattle.ibos_model.specs.Journal.{Journal, is_ok, is_accepted}
 use Rattle.ibos_model.specs.Tabs.{Tabs, Opens, Moves, Ends, Life, Unborn, Alive, Gone, changed, tabs, no_tabs, next_in, life_of, origin_of, life_in}
 use Rattle.ibos_model.specs.Focus.{active_tab, focus_of}
 use Rattle.ibos_model.specs.Screen.{cell_of, screen}
-use Rattle.ibos_frame.specs.Frames.{seen_at}
+use Rattle.ibos_frame.specs.ScreenStates.{seen_at}
 use Rattle.ibos_model.specs.Jars.{jar, sets_of, with_set}
-use Rattle.ibos_model.specs.Rows.{accepted, denied, admitted, answer, start_row, switch_row, close_row, go_row, set_row, get_row, out}
+use Rattle.ibos_model.specs.Outcomes.{accepted, denied, admitted, answer, start_outcome, switch_outcome, close_outcome, go_outcome, set_outcome, get_outcome, out}
 use Rattle.ibos_model.specs.Runs.{IsRun}
-use Rattle.ibos_kernel.specs.Tables.{Tables, Parts, IsTied, IsBeside, IsComposed, is_entry, origin_at, let_in, get_at, row, with_started, with_gone, with_entered, tabs_after, jar_after, Serves}
-use Rattle.ibos_kernel.specs.Standing.{Shows, Holds, Stands, life_by, life_at, entry}
-use Rattle.ibos_kernel.proofs.Shown.{none_shown, opens_shown, ends_shown, moves_shown}
+use Rattle.ibos_kernel.specs.Tables.{Tables, Parts, IsTied, IsBeside, IsComposed, is_entry, origin_at, let_in, get_at, outcome_by, with_started, with_gone, with_entered, tabs_after, jar_after, Serves}
+use Rattle.ibos_kernel.specs.Standing.{TabsStand, Holds, Stands, life_by, life_at, entry}
+use Rattle.ibos_kernel.proofs.TabsStanding.{none_stand, opens_stand, ends_stand, moves_stand}
 use Rattle.std.proofs.lemmas.Slice.Eq.{bytes_eq-Decides}
 use Rattle.std.proofs.lemmas.List.{set-set}
 use Rattle.ibos_page.specs.Tabs.{without}
 use Rattle.ibos_model.specs.Focus.{active_by, without as spec_without}
 use Rattle.ibos_model.specs.Jars.{sets_by}
 use Rattle.ibos_model.specs.Tabs.{changed_by, changes, opening, leave, entering, end, if_ok}
-use Rattle.ibos_model.specs.Rows.{open_row, leave_row, page_key_row}
+use Rattle.ibos_model.specs.Outcomes.{open_outcome, leave_outcome, page_key_outcome}
 use Rattle.ibos_model.specs.Laws.{AreSetsPut, IsCarried, IsCarriedAlways}
-use Rattle.ibos_kernel.proofs.Shown.{seat-with}
-use Rattle.ibos_kernel.proofs.Rows.{row_seen, row-seen, row_stands, lives_if, enter_seen, active_same, active_lives, seen_screen}
-use Rattle.ibos_kernel.proofs.Displayed.{step_displays, active_within, start_page, let_in_ok}
+use Rattle.ibos_kernel.proofs.TabsStanding.{seat-with}
+use Rattle.ibos_kernel.proofs.Outcomes.{outcome_seen, outcome-seen, outcome_stands, lives_if, enter_seen, active_same, active_lives, seen_screen}
+use Rattle.ibos_kernel.proofs.ScreenStands.{step_displays, active_within, start_page, let_in_ok}
 
 -- a kernel whose parts stand for a journal
 pub parts_stand : (J : Journal) (parts : Parts) (acts : ℕ) (usable : Bool) → Holds J parts → length J ≡ acts
-    → Stands J (record { hosts = parts.hosts; tabs = parts.tabs; jars = parts.jars; frames = parts.frames; focus = parts.focus; acts = acts; usable = usable })
+    → Stands J (record { hosts = parts.hosts; tabs = parts.tabs; jars = parts.jars; screen = parts.screen; focus = parts.focus; acts = acts; usable = usable })
 parts_stand J parts acts usable holds counted = record { parts = holds; acts = counted }
 
 -- a kernel that has made no act
 pub new_holds : (parts : Parts) (table : TabTable) → parts.tabs ≡ table → length table.seats ≡ 64 → ((tab : ℕ) → seat_at table tab ≡ empty_seat) → table.active ≡ None → parts.jars ≡ []
-    → parts.focus ≡ record { entry = []; spot = Entry } → IsBeside parts.tabs parts.frames → IsComposed parts.tabs parts.frames parts.focus → Holds [] parts
+    → parts.focus ≡ record { entry_line = []; spot = Entry } → IsBeside parts.tabs parts.screen → IsComposed parts.tabs parts.screen parts.focus → Holds [] parts
 unfolding tabs focus_of sets_of jar cell_of
 new_holds parts table is room empty none no_jars focus beside composed = record {
   run = tt;
-  shown = none_shown parts.tabs (rw is room) (rw is empty);
+  tabs = none_stand parts.tabs (rw is room) (rw is empty);
   active = rw is (sym none);
   jars = λ o. ap (λ (js : List OriginJar). jar_of js o) no_jars;
   displays = record {
     spot = rw focus refl;
-    entry = rw focus refl;
+    entry_line = rw focus refl;
     cells = λ q r c low left live. absurd (none_lives q (rw (is, empty q.tab) at live));
     blank = λ q r c past. refl;
-    tied = record { beside = beside; composed = composed; entry = λ h. rw focus refl };
+    tied = record { beside = beside; composed = composed; entry_line = λ h. rw focus refl };
   };
 }
   where
@@ -71,7 +71,7 @@ new_holds parts table is room empty none no_jars focus beside composed = record 
     none_lives q h = cc
 
 -- which tab is active shows in no other view
-with_active : (T : Tabs) (t : TabTable) (active : Option ℕ) → Shows T t → Shows T (record t { active = active })
+with_active : (T : Tabs) (t : TabTable) (active : Option ℕ) → TabsStand T t → TabsStand T (record t { active = active })
 with_active T t active shows = record {
   room = shows.room;
   count = shows.count;
@@ -85,19 +85,19 @@ with_active T t active shows = record {
 
 -- ---- what a row tells where it is accepted
 
-start_free : (live : Option Instance) (next : Instance) (r : Result Page Rule) → is_ok (start_row live next r).head ≡ true → live ≡ None
+start_free : (live : Option Instance) (next : Instance) (r : Result Page Rule) → is_ok (start_outcome live next r).head ≡ true → live ≡ None
 start_free (Some who) next r ok = cc
 start_free None next r ok = refl
 
-switch_lives : (live : Option Instance) → is_ok (switch_row live).head ≡ true → live ≢ None
+switch_lives : (live : Option Instance) → is_ok (switch_outcome live).head ≡ true → live ≢ None
 switch_lives (Some who) ok none = cc
 switch_lives None ok none = cc
 
-close_lives : (live : Option Instance) → is_ok (close_row live).head ≡ true → (who : Instance) × (live ≡ Some who)
+close_lives : (live : Option Instance) → is_ok (close_outcome live).head ≡ true → (who : Instance) × (live ≡ Some who)
 close_lives (Some who) ok = (who, refl)
 close_lives None ok = absurd (cc ok)
 
-go_page : (who : Instance) (origin : List ℕ) (next : Instance) (r : Result Page Rule) → is_ok (go_row who origin next r).head ≡ true → (page : Page) × (r ≡ Ok page)
+go_page : (who : Instance) (origin : List ℕ) (next : Instance) (r : Result Page Rule) → is_ok (go_outcome who origin next r).head ≡ true → (page : Page) × (r ≡ Ok page)
 go_page who origin next (Ok page) ok = (page, refl)
 go_page who origin next (Err rule) ok = absurd (cc ok)
 
@@ -109,13 +109,13 @@ no_page seat tab none = by_page seat.page seat.count none
     by_page (Some page) count h = cc
 
 -- an instance ends, and the tab's next one opens
-leaves_shown : (T : Tabs) (t : TabTable) (who : Instance) (page : Page) → Shows T t → who.tab < 64 → live_at t who.tab ≡ Some who
-    → Shows (changed (changed T (Ends who)) (Opens (next_in T who.tab) page)) (with_seat t who.tab (opened page (seat_at t who.tab)))
-leaves_shown T t who page shows within lives =
-    let ended = ends_shown T t who.tab who shows within lives in
+leaves_stand : (T : Tabs) (t : TabTable) (who : Instance) (page : Page) → TabsStand T t → who.tab < 64 → live_at t who.tab ≡ Some who
+    → TabsStand (changed (changed T (Ends who)) (Opens (next_in T who.tab) page)) (with_seat t who.tab (opened page (seat_at t who.tab)))
+leaves_stand T t who page shows within lives =
+    let ended = ends_stand T t who.tab who shows within lives in
     let seat : seat_at (with_seat t who.tab (closed (seat_at t who.tab))) who.tab ≡ closed (seat_at t who.tab) = seat-with t who.tab who.tab (closed (seat_at t who.tab)) shows.room within ∙ here in
-    let both = opens_shown (changed T (Ends who)) (with_seat t who.tab (closed (seat_at t who.tab))) who.tab page ended within (ap (λ (s : Seat). s.page) seat) in
-    let P : TabTable → Type 0 = Shows (changed (changed T (Ends who)) (Opens (next_in T who.tab) page)) in
+    let both = opens_stand (changed T (Ends who)) (with_seat t who.tab (closed (seat_at t who.tab))) who.tab page ended within (ap (λ (s : Seat). s.page) seat) in
+    let P : TabTable → Type 0 = TabsStand (changed (changed T (Ends who)) (Opens (next_in T who.tab) page)) in
     subst P (ap (λ (s : Seat). with_seat (with_seat t who.tab (closed (seat_at t who.tab))) who.tab (opened page s)) seat
     ∙ ap (λ seats. record { seats = seats; active = t.active }) (set-set t.seats who.tab (closed (seat_at t who.tab)) (opened page (seat_at t who.tab)))) both
   where
@@ -124,90 +124,90 @@ leaves_shown T t who page shows within lives =
 
 -- ---- the tabs after each act
 
-start_shown : (T : Tabs) (t : TabTable) (tab : ℕ) (r : Result Page Rule) (ok : Bool) → Shows T t → tab < 64 → (ok ≡ true → is_ok (start_row (live_at t tab) (next_at t tab) r).head ≡ true)
-    → Shows (changed_by T (if_ok ok (opening T tab r))) (if ok then with_started t tab r else t)
-start_shown T t tab r false shows within row = shows
-start_shown T t tab r true shows within row =
+start_stands : (T : Tabs) (t : TabTable) (tab : ℕ) (r : Result Page Rule) (ok : Bool) → TabsStand T t → tab < 64 → (ok ≡ true → is_ok (start_outcome (live_at t tab) (next_at t tab) r).head ≡ true)
+    → TabsStand (changed_by T (if_ok ok (opening T tab r))) (if ok then with_started t tab r else t)
+start_stands T t tab r false shows within row = shows
+start_stands T t tab r true shows within row =
     let free : (seat_at t tab).page ≡ None = no_page (seat_at t tab) tab (start_free (live_at t tab) (next_at t tab) r (row refl)) in
     let page = start_page (live_at t tab) (next_at t tab) r (row refl) in
-    rw page.1 (with_active _ (with_seat t tab (opened page.0 (seat_at t tab))) (Some tab) (opens_shown T t tab page.0 shows within free))
+    rw page.1 (with_active _ (with_seat t tab (opened page.0 (seat_at t tab))) (Some tab) (opens_stand T t tab page.0 shows within free))
 
-close_shown : (T : Tabs) (t : TabTable) (tab : ℕ) (ok : Bool) → Shows T t → tab < 64 → (ok ≡ true → is_ok (close_row (live_at t tab)).head ≡ true)
-    → Shows (changed_by T (if_ok ok (end (T.live tab)))) (if ok then record (with_seat t tab (closed (seat_at t tab))) { active = without tab t.active } else t)
-close_shown T t tab false shows within row = shows
-close_shown T t tab true shows within row =
+close_stands : (T : Tabs) (t : TabTable) (tab : ℕ) (ok : Bool) → TabsStand T t → tab < 64 → (ok ≡ true → is_ok (close_outcome (live_at t tab)).head ≡ true)
+    → TabsStand (changed_by T (if_ok ok (end (T.live tab)))) (if ok then record (with_seat t tab (closed (seat_at t tab))) { active = without tab t.active } else t)
+close_stands T t tab false shows within row = shows
+close_stands T t tab true shows within row =
     let live = close_lives (live_at t tab) (row refl) in
-    rw (shows.live tab, live.1) (with_active _ (with_seat t tab (closed (seat_at t tab))) (without tab t.active) (ends_shown T t tab live.0 shows within live.1))
+    rw (shows.live tab, live.1) (with_active _ (with_seat t tab (closed (seat_at t tab))) (without tab t.active) (ends_stand T t tab live.0 shows within live.1))
 
 -- an instance that lives goes to a page
-left_shown : (T : Tabs) (t : TabTable) (who : Instance) (r : Result Page Rule) → Shows T t → who.tab < 64 → live_at t who.tab ≡ Some who
-    → is_ok (go_row who (origin_at t who) (next_at t who.tab) r).head ≡ true
-    → Shows (changed_by T (leave T who r)) (with_gone t who r)
-left_shown T t who r shows within lives ok =
+left_stands : (T : Tabs) (t : TabTable) (who : Instance) (r : Result Page Rule) → TabsStand T t → who.tab < 64 → live_at t who.tab ≡ Some who
+    → is_ok (go_outcome who (origin_at t who) (next_at t who.tab) r).head ≡ true
+    → TabsStand (changed_by T (leave T who r)) (with_gone t who r)
+left_stands T t who r shows within lives ok =
     let page = go_page who (origin_at t who) (next_at t who.tab) r ok in
     rw (page.1, shows.origin who lives) (by_origin page.0 lives (bytes_eq page.0.origin (origin_at t who)) refl)
   where
     by_origin : (page : Page) → live_at t who.tab ≡ Some who → (same : Bool) → bytes_eq page.origin (origin_at t who) ≡ same
-        → Shows (changed_by T (if same then Moves who page.url ∷ [] else Ends who ∷ Opens (next_in T who.tab) page ∷ [])) (with_seat t who.tab (if same then moved page (seat_at t who.tab) else opened page (seat_at t who.tab)))
-    by_origin page lives true same = moves_shown T t who page shows within lives ((bytes_eq-Decides page.origin (origin_at t who)).0 same)
-    by_origin page lives false differ = leaves_shown T t who page shows within lives
+        → TabsStand (changed_by T (if same then Moves who page.url ∷ [] else Ends who ∷ Opens (next_in T who.tab) page ∷ [])) (with_seat t who.tab (if same then moved page (seat_at t who.tab) else opened page (seat_at t who.tab)))
+    by_origin page lives true same = moves_stand T t who page shows within lives ((bytes_eq-Decides page.origin (origin_at t who)).0 same)
+    by_origin page lives false differ = leaves_stand T t who page shows within lives
 
-go_shown : (T : Tabs) (t : TabTable) (who : Instance) (r : Result Page Rule) (ok : Bool) → Shows T t → who.tab < 64
-    → (ok ≡ true → is_ok (let_in (admission t who) (go_row who (origin_at t who) (next_at t who.tab) r)).head ≡ true)
-    → Shows (changed_by T (if_ok ok (leave T who r))) (if ok then with_gone t who r else t)
-go_shown T t who r false shows within row = shows
-go_shown T t who r true shows within row =
-    let admitted = let_in_ok (admission t who) (go_row who (origin_at t who) (next_at t who.tab) r) (row refl) in
-    left_shown T t who r shows within (lives_if t who admitted.0) admitted.1
+go_stands : (T : Tabs) (t : TabTable) (who : Instance) (r : Result Page Rule) (ok : Bool) → TabsStand T t → who.tab < 64
+    → (ok ≡ true → is_ok (let_in (admission t who) (go_outcome who (origin_at t who) (next_at t who.tab) r)).head ≡ true)
+    → TabsStand (changed_by T (if_ok ok (leave T who r))) (if ok then with_gone t who r else t)
+go_stands T t who r false shows within row = shows
+go_stands T t who r true shows within row =
+    let admitted = let_in_ok (admission t who) (go_outcome who (origin_at t who) (next_at t who.tab) r) (row refl) in
+    left_stands T t who r shows within (lives_if t who admitted.0) admitted.1
 
 -- the active instance goes to the page of the entry line
-entered_shown : (T : Tabs) (t : TabTable) (active : Option Instance) (r : Result Page Rule) (ok at_entry : Bool) (key : Key) → Shows T t
+entered_stands : (T : Tabs) (t : TabTable) (active : Option Instance) (r : Result Page Rule) (ok at_entry_line : Bool) (key : Key) → TabsStand T t
     → ((who : Instance) → active ≡ Some who → (live_at t who.tab ≡ Some who) × (who.tab < 64))
-    → (ok ≡ true → is_ok (if at_entry then enter_seen t active r else page_key_row active key).head ≡ true)
-    → Shows (changed_by T (if_ok (ok && at_entry) (entering T active r))) (if ok && at_entry then with_entered t active r else t)
-entered_shown T t active r false at_entry key shows lives row = shows
-entered_shown T t active r true false key shows lives row = shows
-entered_shown T t None r true true key shows lives row = shows
-entered_shown T t (Some who) r true true key shows lives row =
+    → (ok ≡ true → is_ok (if at_entry_line then enter_seen t active r else page_key_outcome active key).head ≡ true)
+    → TabsStand (changed_by T (if_ok (ok && at_entry_line) (entering T active r))) (if ok && at_entry_line then with_entered t active r else t)
+entered_stands T t active r false at_entry_line key shows lives row = shows
+entered_stands T t active r true false key shows lives row = shows
+entered_stands T t None r true true key shows lives row = shows
+entered_stands T t (Some who) r true true key shows lives row =
     let here = lives who refl in
-    left_shown T t who r shows here.1 here.0 (row refl)
+    left_stands T t who r shows here.1 here.0 (row refl)
 
 ok_of : (outcome row : Outcome) → outcome ≡ row → (ok : Bool) → is_ok outcome.head ≡ ok → ok ≡ true → is_ok row.head ≡ true
 ok_of outcome row is ok head accepted = ap (λ (o : Outcome). is_ok o.head) (sym is) ∙ head ∙ accepted
 
-tabs_stand : (J : Journal) (t : Parts) (act : Act) (outcome : Outcome) → Holds J t → Fits act → outcome ≡ row_seen t act
-    → Shows (tabs t.hosts (entry act outcome ∷ J)) (tabs_after t (is_ok outcome.head) act)
+tabs_stand : (J : Journal) (t : Parts) (act : Act) (outcome : Outcome) → Holds J t → Fits act → outcome ≡ outcome_seen t act
+    → TabsStand (tabs t.hosts (entry act outcome ∷ J)) (tabs_after t (is_ok outcome.head) act)
 unfolding tabs
-tabs_stand J t (Start tab url) outcome stands fits is = start_shown (tabs t.hosts J) t.tabs tab (allowed t.hosts url) (is_ok outcome.head) stands.shown fits (ok_of outcome _ is (is_ok outcome.head) refl)
+tabs_stand J t (Start tab url) outcome stands fits is = start_stands (tabs t.hosts J) t.tabs tab (allowed t.hosts url) (is_ok outcome.head) stands.tabs fits (ok_of outcome _ is (is_ok outcome.head) refl)
 tabs_stand J t (Switch tab) outcome stands fits is = switched (is_ok outcome.head)
   where
-    switched : (ok : Bool) → Shows (tabs t.hosts J) (if ok then record t.tabs { active = Some tab } else t.tabs)
-    switched true = with_active _ t.tabs (Some tab) stands.shown
-    switched false = stands.shown
-tabs_stand J t (Close tab) outcome stands fits is = close_shown (tabs t.hosts J) t.tabs tab (is_ok outcome.head) stands.shown fits (ok_of outcome _ is (is_ok outcome.head) refl)
-tabs_stand J t (Press (Byte byte)) outcome stands fits is = stands.shown
-tabs_stand J t (Press Back) outcome stands fits is = stands.shown
-tabs_stand J t (Press Enter) outcome stands fits is = rw (stands.displays.spot, stands.displays.entry, active_same J t stands)
-    (entered_shown (tabs t.hosts J) t.tabs (active_in t.tabs) (allowed t.hosts t.focus.entry) (is_ok outcome.head) (is_entry t.focus.spot) Enter stands.shown
+    switched : (ok : Bool) → TabsStand (tabs t.hosts J) (if ok then record t.tabs { active = Some tab } else t.tabs)
+    switched true = with_active _ t.tabs (Some tab) stands.tabs
+    switched false = stands.tabs
+tabs_stand J t (Close tab) outcome stands fits is = close_stands (tabs t.hosts J) t.tabs tab (is_ok outcome.head) stands.tabs fits (ok_of outcome _ is (is_ok outcome.head) refl)
+tabs_stand J t (Press (Byte byte)) outcome stands fits is = stands.tabs
+tabs_stand J t (Press Back) outcome stands fits is = stands.tabs
+tabs_stand J t (Press Enter) outcome stands fits is = rw (stands.displays.spot, stands.displays.entry_line, active_same J t stands)
+    (entered_stands (tabs t.hosts J) t.tabs (active_in t.tabs) (allowed t.hosts t.focus.entry_line) (is_ok outcome.head) (is_entry t.focus.spot) Enter stands.tabs
     (λ who is. (active_lives t.tabs who is, active_within t.tabs who stands.displays.tied.beside.room (active_lives t.tabs who is)))
     (ok_of outcome _ is (is_ok outcome.head) refl))
-tabs_stand J t (Click r c) outcome stands fits is = stands.shown
-tabs_stand J t Look outcome stands fits is = stands.shown
-tabs_stand J t (Draw who r c height width pixels) outcome stands fits is = stands.shown
-tabs_stand J t (Go who url) outcome stands fits is = go_shown (tabs t.hosts J) t.tabs who (allowed t.hosts url) (is_ok outcome.head) stands.shown fits.0 (ok_of outcome _ is (is_ok outcome.head) refl)
-tabs_stand J t (CookieSet side who text) outcome stands fits is = stands.shown
-tabs_stand J t (CookieGet side who) outcome stands fits is = stands.shown
+tabs_stand J t (Click r c) outcome stands fits is = stands.tabs
+tabs_stand J t Look outcome stands fits is = stands.tabs
+tabs_stand J t (Draw who r c height width pixels) outcome stands fits is = stands.tabs
+tabs_stand J t (Go who url) outcome stands fits is = go_stands (tabs t.hosts J) t.tabs who (allowed t.hosts url) (is_ok outcome.head) stands.tabs fits.0 (ok_of outcome _ is (is_ok outcome.head) refl)
+tabs_stand J t (CookieSet side who text) outcome stands fits is = stands.tabs
+tabs_stand J t (CookieGet side who) outcome stands fits is = stands.tabs
 
 without_same : (tab : ℕ) (active : Option ℕ) → spec_without tab active ≡ without tab active
 without_same tab None = refl
 without_same tab (Some active) = refl
 
-active_stands : (J : Journal) (t : Parts) (act : Act) (outcome : Outcome) → Holds J t → outcome ≡ row_seen t act
+active_stands : (J : Journal) (t : Parts) (act : Act) (outcome : Outcome) → Holds J t → outcome ≡ outcome_seen t act
     → active_tab (entry act outcome ∷ J) ≡ (tabs_after t (is_ok outcome.head) act).active
 unfolding focus_of
 active_stands J t (Start tab url) outcome stands is = started (is_ok outcome.head) (ok_of outcome _ is (is_ok outcome.head) refl)
   where
-    started : (ok : Bool) → (ok ≡ true → is_ok (start_row (live_at t.tabs tab) (next_at t.tabs tab) (allowed t.hosts url)).head ≡ true)
+    started : (ok : Bool) → (ok ≡ true → is_ok (start_outcome (live_at t.tabs tab) (next_at t.tabs tab) (allowed t.hosts url)).head ≡ true)
         → (if ok then Some tab else active_tab J) ≡ (if ok then with_started t.tabs tab (allowed t.hosts url) else t.tabs).active
     started false row = stands.active
     started true row = let page = start_page (live_at t.tabs tab) (next_at t.tabs tab) (allowed t.hosts url) (row refl) in rw page.1 refl
@@ -223,7 +223,7 @@ active_stands J t (Close tab) outcome stands is = ended (is_ok outcome.head)
     ended false = stands.active
 active_stands J t (Press (Byte byte)) outcome stands is = stands.active
 active_stands J t (Press Back) outcome stands is = stands.active
-active_stands J t (Press Enter) outcome stands is = entered (is_ok outcome.head && is_entry t.focus.spot) (active_in t.tabs) (allowed t.hosts t.focus.entry)
+active_stands J t (Press Enter) outcome stands is = entered (is_ok outcome.head && is_entry t.focus.spot) (active_in t.tabs) (allowed t.hosts t.focus.entry_line)
   where
     entered : (ok : Bool) (active : Option Instance) (r : Result Page Rule) → active_tab J ≡ (if ok then with_entered t.tabs active r else t.tabs).active
     entered false active r = stands.active
@@ -243,7 +243,7 @@ active_stands J t (CookieSet side who text) outcome stands is = stands.active
 active_stands J t (CookieGet side who) outcome stands is = stands.active
 
 -- the jar of an origin after an act
-jars_stand : AreSetsPut → (J : Journal) (t : Parts) (act : Act) (outcome : Outcome) → Holds J t → outcome ≡ row_seen t act → (o : List ℕ)
+jars_stand : AreSetsPut → (J : Journal) (t : Parts) (act : Act) (outcome : Outcome) → Holds J t → outcome ≡ outcome_seen t act → (o : List ℕ)
     → jar_after t (is_ok outcome.head) act o ≡ jar (sets_of t.hosts (entry act outcome ∷ J) o)
 unfolding sets_of
 jars_stand law J t (CookieSet side who text) outcome stands is o = set (is_ok outcome.head) (ok_of outcome _ is (is_ok outcome.head) refl)
@@ -257,7 +257,7 @@ jars_stand law J t (CookieSet side who text) outcome stands is o = set (is_ok ou
     set false row = stands.jars o
     set true row =
         let admitted = let_in_ok (admission t.tabs who) _ (row refl) in
-        rw (stands.shown.origin who (lives_if t.tabs who admitted.0)) (one_set (bytes_eq (origin_at t.tabs who) o))
+        rw (stands.tabs.origin who (lives_if t.tabs who admitted.0)) (one_set (bytes_eq (origin_at t.tabs who) o))
 jars_stand law J t (Start tab url) outcome stands is o = stands.jars o
 jars_stand law J t (Switch tab) outcome stands is o = stands.jars o
 jars_stand law J t (Close tab) outcome stands is o = stands.jars o
@@ -271,22 +271,22 @@ jars_stand law J t (CookieGet side who) outcome stands is o = stands.jars o
 -- an act that the parts serve
 pub step_holds : AreSetsPut → (J : Journal) (old new : Parts) (act : Act) (outcome : Outcome) → Holds J old → Fits act → Serves old act outcome new → Holds (entry act outcome ∷ J) new
 step_holds law J old new act outcome stands fits serves =
-    let told : outcome ≡ row_seen old act = serves.told ∙ row-seen J old act stands in
+    let outcome_is : outcome ≡ outcome_seen old act = serves.outcome_is ∙ outcome-seen J old act stands in
     let H : HostTable = old.hosts in
     let P : HostTable → Type 0 = λ T. IsRun T (entry act outcome ∷ J) in
-    let Q : TabTable → Type 0 = Shows (tabs H (entry act outcome ∷ J)) in
-    let S : HostTable → Type 0 = λ T. Shows (tabs T (entry act outcome ∷ J)) new.tabs in
+    let Q : TabTable → Type 0 = TabsStand (tabs H (entry act outcome ∷ J)) in
+    let S : HostTable → Type 0 = λ T. TabsStand (tabs T (entry act outcome ∷ J)) new.tabs in
     record {
-      run = subst P (sym serves.hosts_are) (record { outcome = told ∙ row_stands J old act stands; written = refl }, stands.run);
-      shown = subst S (sym serves.hosts_are) (subst Q (sym serves.tabs_are) (tabs_stand J old act outcome stands fits told));
-      active = active_stands J old act outcome stands told ∙ ap (λ (table : TabTable). table.active) (sym serves.tabs_are);
-      jars = λ o. serves.jars_are o ∙ jars_stand law J old act outcome stands told o ∙ ap (λ (T : HostTable). jar (sets_of T (entry act outcome ∷ J) o)) (sym serves.hosts_are);
-      displays = step_displays J old new act outcome stands fits serves told;
+      run = subst P (sym serves.hosts_are) (record { outcome = outcome_is ∙ outcome_stands J old act stands; written = refl }, stands.run);
+      tabs = subst S (sym serves.hosts_are) (subst Q (sym serves.tabs_are) (tabs_stand J old act outcome stands fits outcome_is));
+      active = active_stands J old act outcome stands outcome_is ∙ ap (λ (table : TabTable). table.active) (sym serves.tabs_are);
+      jars = λ o. serves.jars_are o ∙ jars_stand law J old act outcome stands outcome_is o ∙ ap (λ (T : HostTable). jar (sets_of T (entry act outcome ∷ J) o)) (sym serves.hosts_are);
+      displays = step_displays J old new act outcome stands fits serves outcome_is;
     }
 
 -- the outcome is the journal's
 pub step_told : (J : Journal) (old new : Parts) (act : Act) (outcome : Outcome) → Holds J old → Serves old act outcome new → outcome ≡ out old.hosts J act
-step_told J old new act outcome stands serves = serves.told ∙ row-seen J old act stands ∙ row_stands J old act stands
+step_told J old new act outcome stands serves = serves.outcome_is ∙ outcome-seen J old act stands ∙ outcome_stands J old act stands
 
 -- what the act tells each instance is what its facts give
 step_carried : IsCarriedAlways → (J : Journal) (old new : Parts) (act : Act) (outcome : Outcome) → Holds J old → Serves old act outcome new
@@ -296,7 +296,7 @@ step_carried law J old new act outcome stands serves = law old.hosts J (entry ac
 -- ---- as the code says it
 
 abbrev view_of : Parts → ℕ → Bool → Tables
-view_of parts acts usable = record { hosts = parts.hosts; tabs = parts.tabs; jars = parts.jars; frames = parts.frames; focus = parts.focus; acts = acts; usable = usable }
+view_of parts acts usable = record { hosts = parts.hosts; tabs = parts.tabs; jars = parts.jars; screen = parts.screen; focus = parts.focus; acts = acts; usable = usable }
 
 -- the parts of what the kernel is seen as
 held : (J : Journal) (t : Tables) (parts : Parts) (acts : ℕ) (usable : Bool) → view_of parts acts usable ≡ t → Stands J t → Holds J parts
@@ -326,6 +326,6 @@ step_denied t old new acts usable view same =
     ap (λ (parts : Parts). view_of parts (acts + 1) usable) same ∙ ap (λ (k : Tables). record k { acts = k.acts + 1 }) view
 
 pub pixels_seen : (J : Journal) (t : Tables) (parts : Parts) (acts : ℕ) (usable : Bool) → view_of parts acts usable ≡ t → Stands J t
-    → (r c : ℕ) → r < 25 → c < 80 → seen_at parts.frames r c ≡ screen t.hosts J r c
+    → (r c : ℕ) → r < 25 → c < 80 → seen_at parts.screen r c ≡ screen t.hosts J r c
 pixels_seen J t parts acts usable view stands r c low left =
     seen_screen J parts (held J t parts acts usable view stands) r c low left ∙ ap (λ (k : Tables). screen k.hosts J r c) view

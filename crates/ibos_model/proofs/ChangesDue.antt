@@ -13,9 +13,9 @@ use Rattle.ibos_origin.specs.Pages.{Page, allowed}
 use Rattle.ibos_model.specs.Journal.{Entry, Journal, is_accepted, is_ok}
 use Rattle.ibos_model.specs.Focus.{focus_of}
 use Rattle.ibos_model.specs.Tabs.{Tabs, Change, Opens, Moves, Ends, changed, changes, opening, end, leave, entering, active_in, tabs, next_in, no_tabs, life_with, origin_in}
-use Rattle.ibos_model.specs.Rows.{out, admitted, start_row}
+use Rattle.ibos_model.specs.Outcomes.{out, admitted, start_outcome}
 use Rattle.ibos_model.specs.Runs.{IsRun}
-use Rattle.ibos_model.proofs.Folds.{same-true, same-refl}
+use Rattle.ibos_model.proofs.Equalities.{same-true, same-refl}
 use Rattle.ibos_model.proofs.ChangeFolds.{All, all_if_ok, tabs_keep}
 
 -- what holds of the tabs after every run
@@ -85,7 +85,7 @@ admitted_lives t who row sound (Some page) there false was ok =
     clash : Some page ≡ None → ⊥
     clash h = cc
 
-start_empty : (t : Tabs) (tab : ℕ) (r : Result Page Rule) (live : Option Instance) → t.live tab ≡ live → is_ok (start_row live (next_in t tab) r).head ≡ true → t.live tab ≡ None
+start_empty : (t : Tabs) (tab : ℕ) (r : Result Page Rule) (live : Option Instance) → t.live tab ≡ live → is_ok (start_outcome live (next_in t tab) r).head ≡ true → t.live tab ≡ None
 start_empty t tab r None is ok = is
 start_empty t tab r (Some who) is ok = cc
 
@@ -96,8 +96,8 @@ changes_due R H J (Start tab url) ok sound is = all_if_ok (IsDue R H) (tabs H J)
     (λ yes. opening_due R H (tabs H J) tab url (allowed H url) refl (λ r. start_empty (tabs H J) tab (allowed H url) ((tabs H J).live tab) refl (is r ∙ yes)))
 changes_due R H J (Close tab) ok sound is = all_if_ok (IsDue R H) (tabs H J) ok (end ((tabs H J).live tab))
     (λ yes. end_due R H (tabs H J) ((tabs H J).live tab) (λ who lives r. live_at (tabs H J) tab who lives (sound r)))
-changes_due R H J (Press Enter) ok sound is = all_if_ok (IsDue R H) (tabs H J) _ (entering (tabs H J) (active_in (tabs H J) (focus_of J)) (allowed H (focus_of J).entry))
-    (λ yes. entering_due R H (tabs H J) (active_in (tabs H J) (focus_of J)) (focus_of J).entry (λ who active r. active_at (tabs H J) (focus_of J).tab who active (sound r)))
+changes_due R H J (Press Enter) ok sound is = all_if_ok (IsDue R H) (tabs H J) _ (entering (tabs H J) (active_in (tabs H J) (focus_of J)) (allowed H (focus_of J).entry_line))
+    (λ yes. entering_due R H (tabs H J) (active_in (tabs H J) (focus_of J)) (focus_of J).entry_line (λ who active r. active_at (tabs H J) (focus_of J).tab who active (sound r)))
 changes_due R H J (Go who url) ok sound is = all_if_ok (IsDue R H) (tabs H J) ok (leave (tabs H J) who (allowed H url))
     (λ yes. leave_due R H (tabs H J) who url (allowed H url) refl
     (λ r. admitted_lives (tabs H J) who _ (sound r) ((tabs H J).page who) refl ((tabs H J).is_gone who) refl (is r ∙ yes)))

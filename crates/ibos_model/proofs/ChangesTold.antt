@@ -17,9 +17,9 @@ use Rattle.ibos_model.specs.Facts.{Opened, IsEnded, when, change_fact, change_fa
 use Rattle.ibos_model.specs.Gives.{Mine, deliveries, mine_after, gives_from, mine_from}
 use Rattle.ibos_model.specs.Delivered.{Told, told}
 use Rattle.ibos_kinds.specs.Parties.{is_to}
-use Rattle.ibos_model.proofs.Folds.{same-true}
+use Rattle.ibos_model.proofs.Equalities.{same-true}
 use Rattle.ibos_model.proofs.Inductions.{given-append, counted-append}
-use Rattle.ibos_model.proofs.Due.{IsSound, Allows, AllowsAll, changed_sound, next_ord}
+use Rattle.ibos_model.proofs.ChangesDue.{IsSound, Allows, AllowsAll, changed_sound, next_ord}
 
 -- what a change tells its instance
 abbrev pub item_of : Change → Item

@@ -1,0 +1,138 @@
+-- The outcome of each act: the first broken rule of its row, or the row's items.
+use Rattle.std.specs.Prelude.{ℕ, ◌+◌, ◌-◌, zero, suc, List, [], ◌∷◌, not, nat_lt, Ok, Err, Result, Option, Some, None, bytes_eq, if◌then◌else◌}
+use Rattle.ibos_kinds.specs.declared.names.Instance.{Instance}
+use Rattle.ibos_kinds.specs.declared.party.Party.{Party}
+use Rattle.ibos_kinds.specs.declared.party.Party.TheVariants.{Page as PageOf}
+use Rattle.ibos_kinds.specs.Parties.{actor}
+use Rattle.ibos_kinds.specs.declared.rule.Rule.{Rule}
+use Rattle.ibos_kinds.specs.declared.rule.Rule.TheVariants.{U1, U2, U3, U10, U12, P1, P2}
+use Rattle.ibos_kinds.specs.declared.names.Key.{Key}
+use Rattle.ibos_kinds.specs.declared.names.Key.TheVariants.{Enter}
+use Rattle.ibos_kinds.specs.declared.act.Act.{Act}
+use Rattle.ibos_kinds.specs.declared.act.Act.TheVariants.{Start, Switch, Close, Press, Click, Look, Go, Draw, CookieSet, CookieGet}
+use Rattle.ibos_kinds.specs.declared.outcome.Head.TheVariants.{Ok as Fine, Denied}
+use Rattle.ibos_kinds.specs.declared.outcome.Item.{Item}
+use Rattle.ibos_kinds.specs.declared.outcome.Item.TheVariants.{Opened, Moved, Ended, KeyTo, ClickTo, Cookies, RowIs}
+use Rattle.ibos_kinds.specs.declared.outcome.Outcome.{Outcome}
+use Rattle.ibos_kinds.specs.declared.cookies.Cookie.{Cookie}
+use Rattle.ibos_kinds.specs.Cookies.{set_breaks, jar_text}
+use Rattle.ibos_kinds.specs.Keyboard.{key_breaks, key_byte}
+use Rattle.ibos_kinds.specs.Screens.{chrome_rows, content_rows, draw_breaks, is_on_screen}
+use Rattle.ibos_origin.specs.Hosts.{HostTable}
+use Rattle.ibos_origin.specs.Pages.{Page, allowed}
+use Rattle.ibos_model.specs.Journal.{Journal}
+use Rattle.ibos_model.specs.Focus.{Focus, focus_of}
+use Rattle.ibos_model.specs.Tabs.{Tabs, Life, Unborn, Alive, Gone, tabs, next_in, life_of, origin_in, origin_of, active_of}
+use Rattle.ibos_model.specs.Jars.{jar, sets_of}
+use Rattle.ibos_model.specs.Screen.{screen, seen_row}
+
+abbrev pub denied : Rule → Outcome
+denied rule = record { head = Denied rule; items = [] }
+
+abbrev pub accepted : List Item → Outcome
+accepted items = record { head = Fine; items = items }
+
+-- an act of an instance is denied before its start and after its end
+abbrev pub admitted : Life → Outcome → Outcome
+admitted Unborn row = denied P1
+admitted Alive row = row
+admitted Gone row = denied P2
+
+abbrev pub answer : Option Rule → Outcome
+answer None = accepted []
+answer (Some rule) = denied rule
+
+-- a set, over the sets of its origin so far
+abbrev pub set_outcome : List ℕ → List Cookie → Outcome
+set_outcome text sets = answer (set_breaks text (jar sets))
+
+abbrev pub get_outcome : Instance → List Cookie → Outcome
+get_outcome who sets = accepted (Cookies who (jar_text (jar sets)) ∷ [])
+
+abbrev pub open_outcome : Instance → Result Page Rule → Outcome
+open_outcome next (Ok page) = accepted (Opened next page.url ∷ [])
+open_outcome next (Err rule) = denied rule
+
+-- a tab has one live instance at a time, and 32 in a run
+abbrev pub start_outcome : Option Instance → Instance → Result Page Rule → Outcome
+start_outcome (Some live) next r = denied U1
+start_outcome None next r = if nat_lt next.ord 32 then open_outcome next r else denied U3
+
+abbrev pub switch_outcome : Option Instance → Outcome
+switch_outcome None = denied U2
+switch_outcome (Some who) = accepted []
+
+abbrev pub close_outcome : Option Instance → Outcome
+close_outcome None = denied U2
+close_outcome (Some who) = accepted (Ended who ∷ [])
+
+-- an instance leaves its origin: it ends, and the tab's next one opens, if there is one
+abbrev pub leave_outcome : Instance → Instance → Page → Outcome
+leave_outcome who next page = if nat_lt who.ord 31 then accepted (Ended who ∷ Opened next page.url ∷ []) else denied U3
+
+-- an instance goes to a page of its origin or of another
+abbrev pub go_outcome : Instance → List ℕ → Instance → Result Page Rule → Outcome
+go_outcome who origin next (Ok page) = if bytes_eq page.origin origin then accepted (Moved who page.url ∷ []) else leave_outcome who next page
+go_outcome who origin next (Err rule) = denied rule
+
+-- a key with the focus at the content goes to the active instance
+abbrev pub page_key_outcome : Option Instance → Key → Outcome
+page_key_outcome None key = accepted []
+page_key_outcome (Some who) key = accepted (KeyTo who (key_byte key) ∷ [])
+
+-- Enter at the entry line: the active instance goes to the page that stands there
+abbrev pub enter_outcome : Tabs → Option Instance → Result Page Rule → Outcome
+enter_outcome t None r = denied U10
+enter_outcome t (Some who) r = go_outcome who (origin_in t who) (next_in t who.tab) r
+
+-- a key with the focus at the entry line
+abbrev pub entry_key_outcome : HostTable → Tabs → List ℕ → Option Instance → Key → Outcome
+entry_key_outcome H t entry active Enter = enter_outcome t active (allowed H entry)
+entry_key_outcome H t entry active key = answer (key_breaks entry key)
+
+abbrev pub press_outcome : HostTable → Tabs → Focus → Option Instance → Key → Outcome
+press_outcome H t f active key = if f.at_entry_line then entry_key_outcome H t f.entry_line active key else page_key_outcome active key
+
+-- a click on the content goes to the active instance, by the content's own rows
+abbrev pub content_click_outcome : Option Instance → ℕ → ℕ → Outcome
+content_click_outcome None row col = denied U10
+content_click_outcome (Some who) row col = accepted (ClickTo who row col ∷ [])
+
+abbrev pub click_outcome : Option Instance → ℕ → ℕ → Outcome
+click_outcome active row col =
+    if not (is_on_screen row col) then denied U12
+    else if nat_lt row chrome_rows then accepted []
+    else content_click_outcome active (row - chrome_rows) col
+
+-- rows from one of that number on
+abbrev pub rows_from : ℕ → ℕ → (ℕ → List ℕ) → List Item
+rows_from r zero f = []
+rows_from r (suc n) f = RowIs r (f r) ∷ rows_from (r + 1) n f
+
+abbrev pub look_outcome : (ℕ → List ℕ) → Outcome
+look_outcome f = accepted (rows_from 0 (chrome_rows + content_rows) f)
+
+abbrev pub draw_outcome : ℕ → ℕ → ℕ → ℕ → List ℕ → Outcome
+draw_outcome row col height width pixels = answer (draw_breaks row col height width pixels)
+
+-- the row of an act after a journal, where its actor may act
+abbrev pub act_outcome : HostTable → Journal → Act → Outcome
+act_outcome H J (Start tab url) = start_outcome ((tabs H J).live tab) (next_in (tabs H J) tab) (allowed H url)
+act_outcome H J (Switch tab) = switch_outcome ((tabs H J).live tab)
+act_outcome H J (Close tab) = close_outcome ((tabs H J).live tab)
+act_outcome H J (Press key) = press_outcome H (tabs H J) (focus_of J) (active_of H J) key
+act_outcome H J (Click row col) = click_outcome (active_of H J) row col
+act_outcome H J Look = look_outcome (seen_row (screen H J))
+act_outcome H J (Draw who row col height width pixels) = draw_outcome row col height width pixels
+act_outcome H J (Go who url) = go_outcome who (origin_of H J who) (next_in (tabs H J) who.tab) (allowed H url)
+act_outcome H J (CookieSet side who text) = set_outcome text (sets_of H J (origin_of H J who))
+act_outcome H J (CookieGet side who) = get_outcome who (sets_of H J (origin_of H J who))
+
+-- an instance acts while it lives, and all others always
+abbrev pub life_of_party : (Instance → Life) → Party → Life
+life_of_party life (PageOf who) = life who
+life_of_party life other = Alive
+
+-- the outcome of an act after a journal
+abbrev pub out : HostTable → Journal → Act → Outcome
+out H J a = admitted (life_of_party (life_of H J) (actor a)) (act_outcome H J a)
