@@ -1,44 +1,39 @@
 -- What an act makes of the tables stands for the journal with its entry.
-use Rattle.std.proofs.Common.{◌≡◌, ◌≢◌, ℕ, ◌+◌, ◌<◌, ◌≤◌, Bool, true, false, List, [], ◌∷◌, length, Option, Some, None, Ok, Err, Result, refl, sym, ◌∙◌, ap, subst, arith}
-use Rattle.std.specs.Prelude.{bytes_eq, nat_lt, is_some, ◌-◌, ◌&&◌, ◌==◌, unwrap_or, option_map, if◌then◌else◌}
+use Rattle.std.proofs.Common.{◌≡◌, ◌≢◌, ℕ, ◌+◌, ◌<◌, Bool, true, false, List, [], ◌∷◌, length, Option, Some, None, Ok, Err, Result, refl, sym, ◌∙◌, ap, subst, arith}
+use Rattle.std.specs.Prelude.{bytes_eq, ◌-◌, ◌&&◌, ◌==◌, option_map, if◌then◌else◌}
 use Rattle.std.proofs.lemmas.Bool.Decides.{nat_tests}
-use Rattle.ibos_kinds.specs.declared.cookies.Cookie.{Cookie}
-use Rattle.ibos_kinds.specs.Cookies.{cookie_in, set_breaks, put, jar_text}
+use Rattle.ibos_kinds.specs.Cookies.{cookie_in, set_breaks, put}
 use Rattle.ibos_kinds.specs.declared.names.Instance.{Instance}
-use Rattle.ibos_kinds.specs.declared.names.Side.{Side}
 use Rattle.ibos_kinds.specs.declared.rule.Rule.{Rule}
-use Rattle.ibos_kinds.specs.declared.rule.Rule.TheVariants.{P1, P2, U3}
 use Rattle.ibos_kinds.specs.declared.act.Act.{Act}
 use Rattle.ibos_kinds.specs.declared.act.Act.TheVariants.{Start, Switch, Close, Press, Click, Look, Go, Draw, CookieSet, CookieGet}
 use Rattle.ibos_kinds.specs.declared.names.Key.{Key}
 use Rattle.ibos_kinds.specs.declared.names.Key.TheVariants.{Byte, Enter, Back}
 use Rattle.ibos_focus.specs.declared.focus.Spot.TheVariants.{Entry}
-use Rattle.ibos_kinds.specs.declared.outcome.Item.TheVariants.{Cookies}
 use Rattle.ibos_kinds.specs.declared.outcome.Outcome.{Outcome}
 use Rattle.ibos_kinds.specs.Limits.{Fits}
 use Rattle.ibos_origin.specs.Hosts.{HostTable}
 use Rattle.ibos_origin.specs.Pages.{Page, allowed}
 use Rattle.ibos_page.specs.Seats.{Seat}
-use Rattle.ibos_page.specs.Tabs.{TabTable, seat_at, live_at, active_in, next_at, is_live_in, admission, admission_in, empty_seat, opened, moved, closed, with_seat, live_in, origin_with}
+use Rattle.ibos_page.specs.Tabs.{TabTable, seat_at, live_at, active_in, next_at, is_live_in, admission, empty_seat, opened, moved, closed, with_seat, live_in}
 use Rattle.ibos_cookie.specs.Jars.{OriginJar, jar_of}
-use Rattle.ibos_model.specs.Journal.{Journal, is_ok, is_accepted}
-use Rattle.ibos_model.specs.Tabs.{Tabs, Opens, Moves, Ends, Life, Unborn, Alive, Gone, changed, tabs, no_tabs, next_in, life_of, origin_of, life_in}
+use Rattle.ibos_model.specs.Journal.{Journal, is_ok}
+use Rattle.ibos_model.specs.Tabs.{Tabs, Opens, Moves, Ends, changed, tabs, next_in, origin_of}
 use Rattle.ibos_model.specs.Focus.{active_tab, focus_of}
 use Rattle.ibos_model.specs.Screen.{cell_of, screen}
 use Rattle.ibos_frame.specs.ScreenStates.{seen_at}
 use Rattle.ibos_model.specs.Jars.{jar, sets_of, with_set}
-use Rattle.ibos_model.specs.Outcomes.{accepted, denied, admitted, answer, start_outcome, switch_outcome, close_outcome, go_outcome, set_outcome, get_outcome, out}
+use Rattle.ibos_model.specs.Outcomes.{accepted, answer, start_outcome, switch_outcome, close_outcome, go_outcome, out}
 use Rattle.ibos_model.specs.Runs.{IsRun}
-use Rattle.ibos_kernel.specs.Tables.{Tables, Parts, IsTied, IsBeside, IsComposed, is_entry, origin_at, let_in, get_at, outcome_by, with_started, with_gone, with_entered, tabs_after, jar_after, Serves}
-use Rattle.ibos_kernel.specs.Standing.{TabsStand, Holds, Stands, life_by, life_at, entry}
+use Rattle.ibos_kernel.specs.Tables.{Tables, Parts, IsBeside, IsComposed, is_entry, origin_at, let_in, with_started, with_gone, with_entered, tabs_after, jar_after, Serves}
+use Rattle.ibos_kernel.specs.Standing.{TabsStand, Holds, Stands, entry}
 use Rattle.ibos_kernel.proofs.TabsStanding.{none_stand, opens_stand, ends_stand, moves_stand}
 use Rattle.std.proofs.lemmas.Slice.Eq.{bytes_eq-Decides}
 use Rattle.std.proofs.lemmas.List.{set-set}
 use Rattle.ibos_page.specs.Tabs.{without}
-use Rattle.ibos_model.specs.Focus.{active_by, without as spec_without}
-use Rattle.ibos_model.specs.Jars.{sets_by}
-use Rattle.ibos_model.specs.Tabs.{changed_by, changes, opening, leave, entering, end, if_ok}
-use Rattle.ibos_model.specs.Outcomes.{open_outcome, leave_outcome, page_key_outcome}
+use Rattle.ibos_model.specs.Focus.{without as spec_without}
+use Rattle.ibos_model.specs.Tabs.{changed_by, opening, leave, entering, end, if_ok}
+use Rattle.ibos_model.specs.Outcomes.{page_key_outcome}
 use Rattle.ibos_model.specs.Laws.{AreSetsPut, IsCarried, IsCarriedAlways}
 use Rattle.ibos_kernel.proofs.TabsStanding.{seat-with}
 use Rattle.ibos_kernel.proofs.Outcomes.{outcome_seen, outcome-seen, outcome_stands, lives_if, enter_seen, active_same, active_lives, seen_screen}

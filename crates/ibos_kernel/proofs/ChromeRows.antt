@@ -1,5 +1,5 @@
 -- The chrome's rows, written one after the other.
-use Rattle.std.proofs.Common.{◌≡◌, ◌≢◌, ℕ, zero, suc, ◌<◌, List, refl, sym, ◌∙◌, ap, subst, arith}
+use Rattle.std.proofs.Common.{◌≡◌, ◌≢◌, ℕ, zero, suc, ◌<◌, List, ◌∙◌, ap, arith}
 use Rattle.ibos_kinds.specs.Screens.{padded}
 use Rattle.ibos_page.specs.Tabs.{TabTable}
 use Rattle.ibos_focus.specs.Focused.{Focused}

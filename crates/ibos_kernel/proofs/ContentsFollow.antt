@@ -1,13 +1,12 @@
 -- Contents go with their instances.
-use Rattle.std.proofs.Common.{◌≡◌, ◌≢◌, ℕ, ◌+◌, ◌-◌, ◌<◌, Bool, true, false, List, length, Option, Some, None, Ok, Err, Result, refl, sym, ◌∙◌, ap, subst, arith}
-use Rattle.std.specs.Prelude.{is_some, bytes_eq, nat_lt, ◌&&◌, ◌==◌, if◌then◌else◌}
+use Rattle.std.proofs.Common.{◌≡◌, ◌≢◌, ℕ, ◌+◌, ◌-◌, ◌<◌, Bool, true, false, length, Option, Some, None, Ok, Err, Result, refl, sym, ◌∙◌, ap, subst, arith}
+use Rattle.std.specs.Prelude.{is_some, bytes_eq, nat_lt, ◌==◌, if◌then◌else◌}
 use Rattle.std.proofs.lemmas.Bool.Decides.{nat_tests}
 use Rattle.ibos_kinds.specs.declared.names.Instance.{Instance}
 use Rattle.ibos_kinds.specs.declared.rule.Rule.{Rule}
 use Rattle.ibos_kinds.specs.declared.rule.Rule.TheVariants.{U1, U3}
 use Rattle.ibos_kinds.specs.Screens.{space}
 use Rattle.ibos_origin.specs.Pages.{Page}
-use Rattle.ibos_page.specs.Seats.{Seat}
 use Rattle.ibos_page.specs.Tabs.{TabTable, seat_at, live_at, next_at, start_in, go_in, origin_with, is_live_in, opened, with_seat}
 use Rattle.ibos_page.specs.declared.tabs.Moved.{Moved}
 use Rattle.ibos_page.specs.declared.tabs.Moved.TheVariants.{Same, New}

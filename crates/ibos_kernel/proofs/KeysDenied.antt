@@ -1,11 +1,11 @@
 -- A key that is refused is denied by its row.
-use Rattle.std.proofs.Common.{◌≡◌, ℕ, List, Bool, true, false, Option, Some, None, Ok, Err, Result, refl, sym, ◌∙◌, ap}
-use Rattle.std.specs.Prelude.{is_some, nat_lt, length, if◌then◌else◌}
+use Rattle.std.proofs.Common.{◌≡◌, ℕ, List, Option, Some, None, Ok, Err, Result, sym, ap}
+use Rattle.std.specs.Prelude.{is_some, if◌then◌else◌}
 use Rattle.ibos_kinds.specs.declared.names.Instance.{Instance}
 use Rattle.ibos_kinds.specs.declared.names.Key.{Key}
 use Rattle.ibos_kinds.specs.declared.names.Key.TheVariants.{Byte, Enter, Back}
 use Rattle.ibos_kinds.specs.declared.rule.Rule.{Rule}
-use Rattle.ibos_kinds.specs.declared.rule.Rule.TheVariants.{U10, U11}
+use Rattle.ibos_kinds.specs.declared.rule.Rule.TheVariants.{U10}
 use Rattle.ibos_kinds.specs.Keyboard.{key_breaks}
 use Rattle.ibos_origin.specs.Hosts.{HostTable}
 use Rattle.ibos_origin.specs.Pages.{Page, allowed}
@@ -14,9 +14,9 @@ use Rattle.ibos_focus.specs.declared.focus.Spot.{Spot}
 use Rattle.ibos_focus.specs.declared.focus.Spot.TheVariants.{Entry, Content}
 use Rattle.ibos_focus.specs.declared.focus.KeyDone.{KeyDone}
 use Rattle.ibos_focus.specs.declared.focus.KeyDone.TheVariants.{Enter as Entered}
-use Rattle.ibos_focus.specs.Focused.{Focused, key_at, edited}
+use Rattle.ibos_focus.specs.Focused.{key_at, edited}
 use Rattle.ibos_model.specs.Outcomes.{answer, denied, page_key_outcome}
-use Rattle.ibos_kernel.specs.Tables.{entry_key_at, enter_at, is_entry, press_at}
+use Rattle.ibos_kernel.specs.Tables.{entry_key_at, enter_at, is_entry}
 
 abbrev rule_of : Rule → Result KeyDone Rule → Rule
 rule_of other (Ok done) = other

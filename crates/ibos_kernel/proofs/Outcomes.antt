@@ -1,11 +1,10 @@
 -- The row of an act by the tables is its row by the journal that they stand for.
-use Rattle.std.proofs.Common.{◌≡◌, ◌≢◌, ℕ, ◌+◌, ◌<◌, ◌≤◌, Bool, true, false, List, [], ◌∷◌, length, Option, Some, None, Ok, Err, Result, refl, sym, ◌∙◌, ap, subst, arith}
-use Rattle.std.specs.Prelude.{bytes_eq, nat_lt, is_some, ◌-◌, ◌&&◌, ◌==◌, unwrap_or, option_map, option_and_then, if◌then◌else◌}
+use Rattle.std.proofs.Common.{◌≡◌, ℕ, ◌+◌, ◌<◌, Bool, true, false, List, [], ◌∷◌, Option, Some, None, Ok, Err, Result, refl, sym, ◌∙◌, ap, subst, arith}
+use Rattle.std.specs.Prelude.{bytes_eq, nat_lt, is_some, ◌-◌, ◌==◌, option_map, option_and_then, if◌then◌else◌}
 use Rattle.std.proofs.lemmas.Bool.Decides.{nat_tests}
 use Rattle.ibos_kinds.specs.declared.cookies.Cookie.{Cookie}
-use Rattle.ibos_kinds.specs.Cookies.{cookie_in, set_breaks, put, jar_text}
+use Rattle.ibos_kinds.specs.Cookies.{set_breaks, jar_text}
 use Rattle.ibos_kinds.specs.declared.names.Instance.{Instance}
-use Rattle.ibos_kinds.specs.declared.names.Side.{Side}
 use Rattle.ibos_kinds.specs.declared.rule.Rule.{Rule}
 use Rattle.ibos_kinds.specs.declared.rule.Rule.TheVariants.{U1, U2, U3, U10, P1, P2}
 use Rattle.ibos_kinds.specs.declared.act.Act.{Act}
@@ -15,26 +14,21 @@ use Rattle.ibos_kinds.specs.declared.names.Key.TheVariants.{Byte, Enter, Back}
 use Rattle.ibos_kinds.specs.Keyboard.{key_breaks}
 use Rattle.ibos_focus.specs.Focused.{Focused}
 use Rattle.ibos_kinds.specs.declared.outcome.Item.TheVariants.{Opened, Moved as ItemMoved, Ended, Cookies}
-use Rattle.ibos_page.specs.declared.tabs.Moved.{Moved}
 use Rattle.ibos_page.specs.declared.tabs.Moved.TheVariants.{Same, New}
 use Rattle.ibos_kinds.specs.declared.outcome.Outcome.{Outcome}
-use Rattle.ibos_kinds.specs.Limits.{Fits}
 use Rattle.ibos_origin.specs.Hosts.{HostTable}
 use Rattle.ibos_origin.specs.Pages.{Page, allowed}
-use Rattle.ibos_page.specs.Seats.{Seat}
-use Rattle.ibos_page.specs.Tabs.{TabTable, seat_at, live_at, active_in, next_at, start_in, go_in, is_live_in, admission, admission_in, empty_seat, opened, moved, closed, with_seat, origin_with}
-use Rattle.ibos_cookie.specs.Jars.{OriginJar, jar_of}
-use Rattle.ibos_model.specs.Journal.{Journal, is_ok, is_accepted}
-use Rattle.ibos_model.specs.Tabs.{Tabs, Opens, Moves, Ends, Life, Unborn, Alive, Gone, changed, tabs, no_tabs, next_in, life_of, origin_of, life_in, active_of}
-use Rattle.ibos_model.specs.Focus.{active_tab}
-use Rattle.ibos_model.specs.Jars.{jar, sets_of, with_set}
+use Rattle.ibos_page.specs.Tabs.{TabTable, seat_at, live_at, active_in, next_at, go_in, is_live_in, admission, admission_in}
+use Rattle.ibos_cookie.specs.Jars.{jar_of}
+use Rattle.ibos_model.specs.Journal.{Journal}
+use Rattle.ibos_model.specs.Tabs.{Tabs, Unborn, Alive, Gone, tabs, next_in, origin_of, life_in, active_of}
+use Rattle.ibos_model.specs.Jars.{sets_of}
 use Rattle.ibos_frame.specs.ScreenStates.{seen_at}
 use Rattle.ibos_model.specs.Screen.{screen, seen_row}
 use Rattle.ibos_model.specs.Outcomes.{accepted, denied, admitted, answer, open_outcome, start_outcome, switch_outcome, close_outcome, page_key_outcome, enter_outcome, click_outcome, look_outcome, draw_outcome, go_outcome, set_outcome, get_outcome, out}
-use Rattle.ibos_model.specs.Runs.{IsRun}
-use Rattle.ibos_kernel.specs.Tables.{Parts, origin_at, started_by, gone_by, go_at, enter_at, is_entry, let_in, get_at, outcome_by, with_started, with_gone, tabs_after, jar_after, Serves}
-use Rattle.ibos_kernel.specs.Standing.{TabsStand, Holds, life_by, life_at, entry}
-use Rattle.ibos_kernel.proofs.TabsStanding.{none_stand, opens_stand, ends_stand, moves_stand, tab_of}
+use Rattle.ibos_kernel.specs.Tables.{Parts, origin_at, started_by, gone_by, go_at, enter_at, is_entry, let_in, get_at, outcome_by}
+use Rattle.ibos_kernel.specs.Standing.{TabsStand, Holds, entry}
+use Rattle.ibos_kernel.proofs.TabsStanding.{tab_of}
 use Rattle.ibos_kernel.proofs.ScreenSeen.{seen_same, looks_same}
 
 -- ---- the row by the tables is the row by the journal

@@ -1,18 +1,17 @@
 -- What is seen of the screen is what the journal's screen has.
-use Rattle.std.proofs.Common.{◌≡◌, ◌≢◌, ℕ, zero, suc, ◌+◌, ◌-◌, ◌<◌, ◌≤◌, Bool, true, false, List, [], ◌∷◌, length, Option, Some, None, refl, sym, ◌∙◌, ap, subst, arith}
+use Rattle.std.proofs.Common.{◌≡◌, ℕ, zero, suc, ◌+◌, ◌-◌, ◌<◌, Bool, true, false, List, Option, Some, None, refl, sym, ◌∙◌, ap, arith}
 use Rattle.std.specs.Prelude.{nat_lt, slice_index, option_and_then, if◌then◌else◌}
 use Rattle.std.proofs.lemmas.Bool.Decides.{nat_tests}
 use Rattle.ibos_kinds.specs.declared.names.Instance.{Instance}
-use Rattle.ibos_kinds.specs.Screens.{chrome_rows, space, padded}
+use Rattle.ibos_kinds.specs.Screens.{chrome_rows, padded}
 use Rattle.ibos_page.specs.Tabs.{TabTable, seat_at, live_at, active_in}
-use Rattle.ibos_frame.specs.ScreenStates.{ScreenState, chrome_at, content_of, content_at, pixel_in, shown_content, seen_at}
+use Rattle.ibos_frame.specs.ScreenStates.{chrome_at, content_of, pixel_in, shown_content, seen_at}
 use Rattle.ibos_model.specs.Journal.{Journal}
 use Rattle.ibos_model.specs.Focus.{focus_of}
 use Rattle.ibos_model.specs.Tabs.{Tabs, tabs, active_of}
-use Rattle.ibos_model.specs.Screen.{bar_of, bar_text, chrome_in, chrome_of, cell_of, content_cell, screen, cells_from, seen_row, trimmed}
+use Rattle.ibos_model.specs.Screen.{bar_of, bar_text, chrome_in, chrome_of, content_cell, screen, cells_from, seen_row, trimmed}
 use Rattle.ibos_model.specs.Outcomes.{rows_from, look_outcome}
-use Rattle.ibos_kinds.specs.declared.outcome.Item.TheVariants.{RowIs}
-use Rattle.ibos_kernel.specs.Tables.{Parts, IsTied, bar_at, chrome_by, is_entry, is_live, url_with}
+use Rattle.ibos_kernel.specs.Tables.{Parts, bar_at, chrome_by, is_live}
 use Rattle.ibos_kernel.specs.Standing.{TabsStand, Displays}
 use Rattle.ibos_kernel.proofs.TabsStanding.{page_there}
 

@@ -1,10 +1,9 @@
 -- The screen's parts after an act show what the journal's views say after it.
-use Rattle.std.proofs.Common.{◌≡◌, ◌≢◌, ℕ, ◌+◌, ◌-◌, ◌<◌, ◌≤◌, Bool, true, false, List, [], ◌∷◌, length, Option, Some, None, Ok, Err, Result, refl, sym, ◌∙◌, ap, subst, arith}
+use Rattle.std.proofs.Common.{◌≡◌, ℕ, ◌+◌, ◌-◌, ◌<◌, ◌≤◌, Bool, true, false, ◌∷◌, length, Option, Some, None, Ok, Err, Result, refl, sym, ◌∙◌, ap, subst, arith}
 use Rattle.std.specs.Prelude.{bytes_eq, nat_lt, is_some, ◌&&◌, ◌==◌, if◌then◌else◌}
 use Rattle.std.proofs.lemmas.Bool.Decides.{nat_tests}
 use Rattle.std.proofs.Math.ListN.{get_or-eq_default}
 use Rattle.ibos_kinds.specs.declared.names.Instance.{Instance}
-use Rattle.ibos_kinds.specs.declared.names.Key.{Key}
 use Rattle.ibos_kinds.specs.declared.names.Key.TheVariants.{Byte, Enter, Back}
 use Rattle.ibos_kinds.specs.declared.rule.Rule.{Rule}
 use Rattle.ibos_kinds.specs.declared.rule.Rule.TheVariants.{U3}
@@ -15,16 +14,16 @@ use Rattle.ibos_kinds.specs.Limits.{Fits}
 use Rattle.ibos_kinds.specs.Screens.{space, cell_after as drawn_cell}
 use Rattle.ibos_origin.specs.Pages.{Page, allowed}
 use Rattle.ibos_page.specs.Seats.{Seat}
-use Rattle.ibos_page.specs.Tabs.{TabTable, seat_at, live_at, live_in, active_in, next_at, is_live_in, admission, empty_seat, opened, moved, closed, with_seat}
+use Rattle.ibos_page.specs.Tabs.{TabTable, seat_at, live_at, live_in, active_in, is_live_in, admission, empty_seat, opened, moved, closed, with_seat}
 use Rattle.ibos_frame.specs.ScreenStates.{content_at}
 use Rattle.ibos_model.specs.Journal.{Journal, is_ok, same}
 use Rattle.ibos_model.specs.Focus.{focus_of, at_entry_line_by}
 use Rattle.ibos_model.specs.Screen.{cell_of, cell_by}
-use Rattle.ibos_model.specs.Outcomes.{denied, open_outcome, start_outcome, close_outcome, go_outcome, draw_outcome, page_key_outcome}
+use Rattle.ibos_model.specs.Outcomes.{denied, start_outcome}
 use Rattle.ibos_kernel.specs.Tables.{Parts, IsTied, is_entry, is_live, spot_of, origin_at, let_in, with_started, with_gone, with_entered, tabs_after, Serves}
 use Rattle.ibos_kernel.specs.Standing.{Holds, Displays, entry}
 use Rattle.ibos_kernel.proofs.TabsStanding.{seat-with, page_there}
-use Rattle.ibos_kernel.proofs.Outcomes.{outcome_seen, lives_if, enter_seen, active_lives}
+use Rattle.ibos_kernel.proofs.Outcomes.{outcome_seen, lives_if, active_lives}
 
 pub start_page : (live : Option Instance) (next : Instance) (r : Result Page Rule) → is_ok (start_outcome live next r).head ≡ true → (page : Page) × (r ≡ Ok page)
 start_page (Some who) next r ok = absurd (cc ok)

@@ -1,14 +1,14 @@
 -- The table of tabs shows the journal's tabs, before and after each change.
-use Rattle.std.proofs.Common.{◌≡◌, ◌≢◌, ℕ, ◌+◌, ◌-◌, ◌<◌, ◌≤◌, Bool, true, false, List, length, Option, Some, None, refl, sym, ◌∙◌, ap, subst, arith, get_or, length-set}
-use Rattle.std.specs.Prelude.{option_map, unwrap_or, slice_set, bytes_eq, nat_lt, is_some, ◌&&◌, ◌==◌, if◌then◌else◌}
+use Rattle.std.proofs.Common.{◌≡◌, ◌≢◌, ℕ, ◌+◌, ◌-◌, ◌<◌, ◌≤◌, Bool, true, false, length, Option, Some, None, refl, sym, ◌∙◌, ap, subst, arith, get_or, length-set}
+use Rattle.std.specs.Prelude.{option_map, unwrap_or, slice_set, is_some, ◌==◌, if◌then◌else◌}
 use Rattle.std.proofs.lemmas.Bool.Decides.{nat_tests}
 use Rattle.std.proofs.lemmas.List.{get_or-set_same, get_or-set_other}
 use Rattle.ibos_kinds.specs.declared.names.Instance.{Instance}
 use Rattle.ibos_origin.specs.Pages.{Page}
 use Rattle.ibos_page.specs.Seats.{Seat}
-use Rattle.ibos_page.specs.Tabs.{TabTable, seat_at, live_at, live_in, is_live_in, empty_seat, opened, moved, closed, with_seat, origin_with}
+use Rattle.ibos_page.specs.Tabs.{TabTable, seat_at, live_at, live_in, empty_seat, opened, moved, closed, with_seat, origin_with}
 use Rattle.ibos_model.specs.Journal.{same}
-use Rattle.ibos_model.specs.Tabs.{Tabs, Change, Opens, Moves, Ends, Life, Unborn, Alive, Gone, changed, no_tabs, next_in, life_in, life_with, origin_in}
+use Rattle.ibos_model.specs.Tabs.{Tabs, Opens, Moves, Ends, Alive, Gone, changed, no_tabs, next_in, life_in, life_with, origin_in}
 use Rattle.ibos_kernel.specs.Tables.{origin_at, url_with}
 use Rattle.ibos_kernel.specs.Standing.{TabsStand, life_by, life_at}
 

@@ -1,5 +1,5 @@
 -- The kernel's tables, and what each act makes of them.
-use Rattle.std.specs.Prelude.{◌≡◌, ℕ, ◌+◌, ◌<◌, zero, length, suc, List, [], ◌∷◌, Bool, true, false, ◌&&◌, is_some, nat_lt, bytes_eq, Option, Some, None, Result, Ok, Err, if◌then◌else◌}
+use Rattle.std.specs.Prelude.{◌≡◌, ℕ, ◌+◌, ◌<◌, zero, length, suc, List, [], ◌∷◌, Bool, true, false, ◌&&◌, is_some, bytes_eq, Option, Some, None, Result, Ok, Err, if◌then◌else◌}
 use Rattle.ibos_kinds.specs.declared.cookies.Cookie.{Cookie}
 use Rattle.ibos_kinds.specs.Cookies.{cookie_in, jar_text, put, set_breaks}
 use Rattle.ibos_kinds.specs.declared.names.Instance.{Instance}

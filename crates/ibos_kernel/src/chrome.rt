@@ -11,7 +11,7 @@ use ibos_kinds::{COLUMNS, Instance};
 use itoa::Buffer;
 
 /// A row's text.
-pub type Row = ArrayVec<u8, 80>;
+pub type Row = ArrayVec<u8, COLUMNS>;
 
 fn push(row: &mut Row, text: &[u8])
     requires { array_vec_len row.old + length text.now ≤ 80 }

@@ -1,7 +1,6 @@
 -- The address bar begins with the active instance's whole origin.
 use Rattle.std.proofs.Common.{◌≡◌, ℕ, zero, suc, ◌≤◌, List, [], ◌∷◌, ◌++◌, Bool, true, false, Option, Some, Ok, refl, sym, ◌∙◌, ap, subst, append_assoc, arith}
 use Rattle.std.specs.Prelude.{if◌then◌else◌, nat_lt, ◌&&◌, length, take, map, codes}
-use Rattle.std.proofs.lemmas.Bool.Decides.{nat_tests}
 use Rattle.std.proofs.lemmas.Slice.Eq.{bytes_eq-Decides}
 use Rattle.ibos_kinds.specs.declared.names.Instance.{Instance}
 use Rattle.std.specs.List.{list_all}
@@ -19,16 +18,11 @@ use Rattle.ibos_model.proofs.ChangesDue.{MayShow, IsDue, changes_due}
 
 -- the URL begins with the origin, which has at most 72 bytes, and these are printable
 abbrev Fits : List ℕ → List ℕ → Type 0
-Fits origin url = (((rest : List ℕ) × (url ≡ origin ++ rest)) × (nat_lt 72 (length origin) ≡ false)) × (list_all is_pixel origin ≡ true)
+Fits origin url = (((rest : List ℕ) × (url ≡ origin ++ rest)) × (length origin ≤ 72)) × (list_all is_pixel origin ≡ true)
 
-abbrev IsFit : Page → Type 0
-IsFit page = Fits page.origin page.url
-
--- the laws of URLs that this one stands on
-pub record UrlLaws : Type 0 where
-  pub begins : (H : HostTable) (text : List ℕ) (page : Page) → allowed H text ≡ Ok page → (rest : List ℕ) × (page.url ≡ page.origin ++ rest)
-  pub short : (H : HostTable) (text : List ℕ) (page : Page) → allowed H text ≡ Ok page → nat_lt 72 (length page.origin) ≡ false
-  pub prints : (H : HostTable) (text : List ℕ) (page : Page) → HasPlainNames H → allowed H text ≡ Ok page → list_all is_pixel page.origin ≡ true
+-- each allowed URL fits, over a host table with plain names
+abbrev pub DoPagesFit : Type 0
+DoPagesFit = (H : HostTable) (text : List ℕ) (page : Page) → HasPlainNames H → allowed H text ≡ Ok page → Fits page.origin page.url
 
 abbrev AllFit : Tabs → Type 0
 AllFit t = (p : Instance) → Fits (origin_in t p) (t.url p)
@@ -45,21 +39,20 @@ moved_fits : (t : Tabs) (who p : Instance) (url : List ℕ) (here : Bool) → sa
 moved_fits t who p url true is new old = subst (λ (q : Instance). Fits (origin_in t q) url) (same-true who p is) new
 moved_fits t who p url false is new old = old
 
-may_fit : UrlLaws → (H : HostTable) → HasPlainNames H → (page : Page) → MayShow H page → IsFit page
-may_fit laws H plain page may =
-    ((laws.begins H may.0 page may.1, laws.short H may.0 page may.1), laws.prints H may.0 page plain may.1)
+may_fit : DoPagesFit → (H : HostTable) → HasPlainNames H → (page : Page) → MayShow H page → Fits page.origin page.url
+may_fit pages H plain page may = pages H may.0 page plain may.1
 
-changed_fit : UrlLaws → (H : HostTable) → HasPlainNames H → (t : Tabs) (c : Change) → AllFit t → IsDue ⊥ H t c → AllFit (changed t c)
-changed_fit laws H plain t (Opens who page) fit due p = opened_fits t page p (same who p) (may_fit laws H plain page due.2) (fit p)
-changed_fit laws H plain t (Moves who url) fit due p =
+changed_fit : DoPagesFit → (H : HostTable) → HasPlainNames H → (t : Tabs) (c : Change) → AllFit t → IsDue ⊥ H t c → AllFit (changed t c)
+changed_fit pages H plain t (Opens who page) fit due p = opened_fits t page p (same who p) (may_fit pages H plain page due.2) (fit p)
+changed_fit pages H plain t (Moves who url) fit due p =
     let to = due.1 in
-    let fits : Fits to.0.origin to.0.url = may_fit laws H plain to.0 to.1 in
+    let fits : Fits to.0.origin to.0.url = may_fit pages H plain to.0 to.1 in
     let here : Fits (origin_in t who) to.0.url = subst (λ (o : List ℕ). Fits o to.0.url) ((bytes_eq-Decides to.0.origin (origin_in t who)).0 to.3) fits in
     moved_fits t who p url (same who p) refl (subst (λ (u : List ℕ). Fits (origin_in t who) u) (sym to.2) here) (fit p)
-changed_fit laws H plain t (Ends who) fit due p = fit p
+changed_fit pages H plain t (Ends who) fit due p = fit p
 
-tabs_fit : UrlLaws → (H : HostTable) → HasPlainNames H → (J : Journal) → AllFit (tabs H J)
-tabs_fit laws H plain J = tabs_keep H (λ K. Unit {0}) (IsDue ⊥ H) AllFit (λ p. ((([], refl), refl), refl)) (changed_fit laws H plain) (λ K e good. tt)
+tabs_fit : DoPagesFit → (H : HostTable) → HasPlainNames H → (J : Journal) → AllFit (tabs H J)
+tabs_fit pages H plain J = tabs_keep H (λ K. Unit {0}) (IsDue ⊥ H) AllFit (λ p. ((([], refl), omega arith), refl)) (changed_fit pages H plain) (λ K e good. tt)
     (λ K e good fit. changes_due ⊥ H K e.act (is_accepted e) absurd absurd) J tt
 
 -- ---- the bar
@@ -74,9 +67,6 @@ cut (x ∷ o) rest zero h = absurd (omega (arith, h))
 cut (x ∷ o) rest (suc n) h =
     let next = cut o rest n (omega (arith, h)) in
     (next.0, ap (λ t. x ∷ t) next.1)
-
-short : (o : List ℕ) → nat_lt 72 (length o) ≡ false → length o ≤ 79
-short o h = grind (arith, nat_tests, h)
 
 either_fits : (o rest : List ℕ) (long : Bool) → length o ≤ 79 → (more : List ℕ) × ((if long then take 79 (o ++ rest) ++ codes ">" else o ++ rest) ≡ o ++ more)
 either_fits o rest false h = (rest, refl)
@@ -97,13 +87,13 @@ bar_begins : (o url : List ℕ) → Fits o url → take (length o) (bar_text url
 unfolding bar_text
 bar_begins o url fits =
     let rest = fits.0.0.0 in
-    let part = either_fits o rest (nat_lt columns (length (o ++ rest))) (short o fits.0.1) in
+    let part = either_fits o rest (nat_lt columns (length (o ++ rest))) (omega (arith, fits.0.1)) in
     ap (λ (u : List ℕ). take (length o) (map chrome_byte (if nat_lt columns (length u) then take 79 u ++ codes ">" else u))) fits.0.0.1
     ∙ ap (λ (u : List ℕ). take (length o) (map chrome_byte u)) part.1
     ∙ front chrome_byte o part.0
     ∙ shown_whole o fits.1
 
-pub origin_shown : UrlLaws → IsOriginShown
-origin_shown laws H J who plain active =
+pub origin_shown : DoPagesFit → IsOriginShown
+origin_shown pages H J who plain active =
     ap (λ (a : Option Instance). take (length (origin_in (tabs H J) who)) (bar_of (tabs H J) a)) active
-    ∙ bar_begins (origin_in (tabs H J) who) ((tabs H J).url who) (tabs_fit laws H plain J who)
+    ∙ bar_begins (origin_in (tabs H J) who) ((tabs H J).url who) (tabs_fit pages H plain J who)

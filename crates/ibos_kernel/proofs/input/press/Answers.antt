@@ -1,6 +1,5 @@
-use Rattle.std.proofs.Common.{◌≡◌, Bool, Result, sym, ◌∙◌, ap}
+use Rattle.std.proofs.Common.{◌≡◌, Bool, sym, ◌∙◌, ap}
 use Rattle.std.specs.Prelude.{is_some}
-use Rattle.ibos_kinds.specs.declared.outcome.Outcome.{Outcome}
 use Rattle.ibos_kinds.specs.declared.outcome.Head.TheVariants.{Denied}
 use Rattle.ibos_focus.specs.Focused.{key_of}
 use Rattle.ibos_kernel.proofs.KeysDenied.{key_denied}

@@ -1,4 +1,4 @@
-use Rattle.std.proofs.Common.{◌≡◌, ℕ, ◌+◌, ◌*◌, ◌-◌, ◌<◌, List, [], ◌∷◌, ◌++◌, sym, ◌∙◌, ap, arith}
+use Rattle.std.proofs.Common.{◌+◌, ◌*◌, ◌-◌, ◌<◌, List, [], ◌∷◌, ◌++◌, ◌∙◌, ap, arith}
 use Rattle.ibos_kinds.specs.declared.outcome.Item.{Item}
 use Rattle.ibos_kinds.specs.declared.outcome.Item.TheVariants.{RowIs}
 use Rattle.ibos_frame.specs.ScreenStates.{seen_at}

@@ -1,4 +1,4 @@
-use Rattle.std.proofs.Common.{◌≡◌, ℕ, ◌≤◌}
+use Rattle.std.proofs.Common.{◌≡◌, ◌≤◌}
 use Rattle.ibos_kinds.specs.declared.outcome.Head.TheVariants.{Ok}
 use Rattle.ibos_frame.specs.ScreenStates.{seen_at}
 use Rattle.ibos_model.specs.Screen.{seen_row}

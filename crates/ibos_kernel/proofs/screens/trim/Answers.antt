@@ -1,4 +1,4 @@
-use Rattle.std.proofs.Common.{◌≡◌, ℕ, ◌<◌, ◌≤◌, ◌-◌, suc, List, ◌++◌, ◌∷◌, [], take, length, refl, sym, ◌∙◌, ap, subst, arith}
+use Rattle.std.proofs.Common.{◌≡◌, take, sym, ◌∙◌, ap, arith}
 use Rattle.ibos_kernel.proofs.RowsTrimmed.{front-space, front-other}
 use Rattle.ibos_kernel.proofs.screens.trim.Goals as goal
 use Rattle.ibos_kernel.proofs.screens.trim.Goals.{then-spaces-test+else-cells-len-eq32, else-spaces-test}

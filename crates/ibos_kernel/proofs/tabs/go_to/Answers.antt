@@ -1,4 +1,4 @@
-use Rattle.std.proofs.Common.{◌≡◌, sym, subst, ap, Ok, ◌∙◌}
+use Rattle.std.proofs.Common.{sym, subst, ap, Ok, ◌∙◌}
 use Rattle.ibos_page.specs.Tabs.{TabTable}
 use Rattle.ibos_page.specs.declared.tabs.Moved.{Moved}
 use Rattle.ibos_kernel.specs.Tables.{Follows}

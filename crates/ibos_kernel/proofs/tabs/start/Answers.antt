@@ -1,7 +1,5 @@
-use Rattle.std.proofs.Common.{◌≡◌, sym, subst, ◌∙◌}
-use Rattle.ibos_page.specs.Tabs.{TabTable, next_at}
-use Rattle.ibos_kinds.specs.declared.names.Instance.{Instance}
-use Rattle.ibos_frame.specs.ScreenStates.{content_of, content_at, is_open}
+use Rattle.std.proofs.Common.{sym, subst, ◌∙◌}
+use Rattle.ibos_page.specs.Tabs.{TabTable}
 use Rattle.ibos_kernel.specs.Tables.{Follows}
 use Rattle.ibos_kernel.proofs.ContentsFollow.{follows_started, started_free, started_who}
 use Rattle.ibos_kernel.proofs.tabs.start.Goals as goal

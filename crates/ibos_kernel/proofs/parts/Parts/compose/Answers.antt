@@ -1,4 +1,4 @@
-use Rattle.std.proofs.Common.{◌≡◌, sym, ◌∙◌, ap}
+use Rattle.std.proofs.Common.{◌∙◌, ap}
 use Rattle.ibos_page.specs.Tabs.{active_in}
 use Rattle.ibos_model.specs.Screen.{state_text, entry_line_text}
 use Rattle.ibos_kernel.specs.Tables.{bar_at, is_entry}
