@@ -26,7 +26,7 @@ use Rattle.ibos_model.specs.Jars.{jar, sets_of, with_set}
 use Rattle.ibos_model.specs.Outcomes.{accepted, answer, start_outcome, switch_outcome, close_outcome, go_outcome, out}
 use Rattle.ibos_model.specs.Runs.{IsRun}
 use Rattle.ibos_kernel.specs.Tables.{Tables, Parts, IsBeside, IsComposed, is_entry, origin_at, let_in, with_started, with_gone, with_entered, tabs_after, jar_after, Serves}
-use Rattle.ibos_kernel.specs.Standing.{TabsStand, Holds, Stands, entry}
+use Rattle.ibos_kernel.specs.Standing.{TabsStand, PartsStand, Stands, entry}
 use Rattle.ibos_kernel.proofs.TabsStanding.{none_stand, opens_stand, ends_stand, moves_stand}
 use Rattle.std.proofs.lemmas.Slice.Eq.{bytes_eq-Decides}
 use Rattle.std.proofs.lemmas.List.{set-set}
@@ -40,13 +40,13 @@ use Rattle.ibos_kernel.proofs.Outcomes.{outcome_seen, outcome-seen, outcome_stan
 use Rattle.ibos_kernel.proofs.ScreenStands.{step_displays, active_within, start_page, let_in_ok}
 
 -- a kernel whose parts stand for a journal
-pub parts_stand : (J : Journal) (parts : Parts) (acts : ℕ) (usable : Bool) → Holds J parts → length J ≡ acts
+pub parts_stand : (J : Journal) (parts : Parts) (acts : ℕ) (usable : Bool) → PartsStand J parts → length J ≡ acts
     → Stands J (record { hosts = parts.hosts; tabs = parts.tabs; jars = parts.jars; screen = parts.screen; focus = parts.focus; acts = acts; usable = usable })
 parts_stand J parts acts usable holds counted = record { parts = holds; acts = counted }
 
 -- a kernel that has made no act
 pub new_holds : (parts : Parts) (table : TabTable) → parts.tabs ≡ table → length table.seats ≡ 64 → ((tab : ℕ) → seat_at table tab ≡ empty_seat) → table.active ≡ None → parts.jars ≡ []
-    → parts.focus ≡ record { entry_line = []; spot = Entry } → IsBeside parts.tabs parts.screen → IsComposed parts.tabs parts.screen parts.focus → Holds [] parts
+    → parts.focus ≡ record { entry_line = []; spot = Entry } → IsBeside parts.tabs parts.screen → IsComposed parts.tabs parts.screen parts.focus → PartsStand [] parts
 unfolding tabs focus_of sets_of jar cell_of
 new_holds parts table is room empty none no_jars focus beside composed = record {
   run = tt;
@@ -170,7 +170,7 @@ entered_stands T t (Some who) r true true key shows lives row =
 ok_of : (outcome row : Outcome) → outcome ≡ row → (ok : Bool) → is_ok outcome.head ≡ ok → ok ≡ true → is_ok row.head ≡ true
 ok_of outcome row is ok head accepted = ap (λ (o : Outcome). is_ok o.head) (sym is) ∙ head ∙ accepted
 
-tabs_stand : (J : Journal) (t : Parts) (act : Act) (outcome : Outcome) → Holds J t → Fits act → outcome ≡ outcome_seen t act
+tabs_stand : (J : Journal) (t : Parts) (act : Act) (outcome : Outcome) → PartsStand J t → Fits act → outcome ≡ outcome_seen t act
     → TabsStand (tabs t.hosts (entry act outcome ∷ J)) (tabs_after t (is_ok outcome.head) act)
 unfolding tabs
 tabs_stand J t (Start tab url) outcome stands fits is = start_stands (tabs t.hosts J) t.tabs tab (allowed t.hosts url) (is_ok outcome.head) stands.tabs fits (ok_of outcome _ is (is_ok outcome.head) refl)
@@ -197,7 +197,7 @@ without_same : (tab : ℕ) (active : Option ℕ) → spec_without tab active ≡
 without_same tab None = refl
 without_same tab (Some active) = refl
 
-active_stands : (J : Journal) (t : Parts) (act : Act) (outcome : Outcome) → Holds J t → outcome ≡ outcome_seen t act
+active_stands : (J : Journal) (t : Parts) (act : Act) (outcome : Outcome) → PartsStand J t → outcome ≡ outcome_seen t act
     → active_tab (entry act outcome ∷ J) ≡ (tabs_after t (is_ok outcome.head) act).active
 unfolding focus_of
 active_stands J t (Start tab url) outcome stands is = started (is_ok outcome.head) (ok_of outcome _ is (is_ok outcome.head) refl)
@@ -238,7 +238,7 @@ active_stands J t (CookieSet side who text) outcome stands is = stands.active
 active_stands J t (CookieGet side who) outcome stands is = stands.active
 
 -- the jar of an origin after an act
-jars_stand : AreSetsPut → (J : Journal) (t : Parts) (act : Act) (outcome : Outcome) → Holds J t → outcome ≡ outcome_seen t act → (o : List ℕ)
+jars_stand : AreSetsPut → (J : Journal) (t : Parts) (act : Act) (outcome : Outcome) → PartsStand J t → outcome ≡ outcome_seen t act → (o : List ℕ)
     → jar_after t (is_ok outcome.head) act o ≡ jar (sets_of t.hosts (entry act outcome ∷ J) o)
 unfolding sets_of
 jars_stand law J t (CookieSet side who text) outcome stands is o = set (is_ok outcome.head) (ok_of outcome _ is (is_ok outcome.head) refl)
@@ -264,7 +264,7 @@ jars_stand law J t (Go who url) outcome stands is o = stands.jars o
 jars_stand law J t (CookieGet side who) outcome stands is o = stands.jars o
 
 -- an act that the parts serve
-pub step_holds : AreSetsPut → (J : Journal) (old new : Parts) (act : Act) (outcome : Outcome) → Holds J old → Fits act → Serves old act outcome new → Holds (entry act outcome ∷ J) new
+pub step_holds : AreSetsPut → (J : Journal) (old new : Parts) (act : Act) (outcome : Outcome) → PartsStand J old → Fits act → Serves old act outcome new → PartsStand (entry act outcome ∷ J) new
 step_holds law J old new act outcome stands fits serves =
     let outcome_is : outcome ≡ outcome_seen old act = serves.outcome_is ∙ outcome-seen J old act stands in
     let H : HostTable = old.hosts in
@@ -280,11 +280,11 @@ step_holds law J old new act outcome stands fits serves =
     }
 
 -- the outcome is the journal's
-pub step_told : (J : Journal) (old new : Parts) (act : Act) (outcome : Outcome) → Holds J old → Serves old act outcome new → outcome ≡ out old.hosts J act
+pub step_told : (J : Journal) (old new : Parts) (act : Act) (outcome : Outcome) → PartsStand J old → Serves old act outcome new → outcome ≡ out old.hosts J act
 step_told J old new act outcome stands serves = serves.outcome_is ∙ outcome-seen J old act stands ∙ outcome_stands J old act stands
 
 -- what the act tells each instance is what its facts give
-step_carried : IsCarriedAlways → (J : Journal) (old new : Parts) (act : Act) (outcome : Outcome) → Holds J old → Serves old act outcome new
+step_carried : IsCarriedAlways → (J : Journal) (old new : Parts) (act : Act) (outcome : Outcome) → PartsStand J old → Serves old act outcome new
     → IsCarried old.hosts J (entry act outcome)
 step_carried law J old new act outcome stands serves = law old.hosts J (entry act outcome) (record { outcome = step_told J old new act outcome stands serves; written = refl }, stands.run)
 
@@ -294,7 +294,7 @@ abbrev view_of : Parts → ℕ → Bool → Tables
 view_of parts acts usable = record { hosts = parts.hosts; tabs = parts.tabs; jars = parts.jars; screen = parts.screen; focus = parts.focus; acts = acts; usable = usable }
 
 -- the parts of what the kernel is seen as
-held : (J : Journal) (t : Tables) (parts : Parts) (acts : ℕ) (usable : Bool) → view_of parts acts usable ≡ t → Stands J t → Holds J parts
+held : (J : Journal) (t : Tables) (parts : Parts) (acts : ℕ) (usable : Bool) → view_of parts acts usable ≡ t → Stands J t → PartsStand J parts
 held J t parts acts usable view stands = let P : Tables → Type 0 = Stands J in (subst P (sym view) stands).parts
 
 pub step_stands : AreSetsPut → (J : Journal) (t : Tables) (old new : Parts) (acts : ℕ) (usable : Bool) (act : Act) (outcome : Outcome) → view_of old acts usable ≡ t

@@ -12,7 +12,7 @@ use Rattle.ibos_page.specs.declared.tabs.Moved.{Moved}
 use Rattle.ibos_page.specs.declared.tabs.Moved.TheVariants.{Same, New}
 use Rattle.ibos_frame.specs.ScreenStates.{ScreenState, content_of, content_at, is_open}
 use Rattle.ibos_model.specs.Journal.{same}
-use Rattle.ibos_kernel.specs.Tables.{IsBeside, Follows, is_live}
+use Rattle.ibos_kernel.specs.Tables.{IsBeside, ContentsFollow, is_live}
 use Rattle.ibos_kernel.proofs.TabsStanding.{seat-with, page_there}
 use Rattle.ibos_kernel.proofs.ScreenStands.{active_within}
 
@@ -76,7 +76,7 @@ next_not_live t tab free = rw free refl
 next_follows : (t : TabTable) (tab : ℕ) (page : Page) (f g : ScreenState) → IsBeside t f → tab < 64 → (seat_at t tab).page ≡ None
     → is_open g (next_at t tab) ≡ true → ((r c : ℕ) → r < 22 → c < 80 → content_at g (next_at t tab) r c ≡ space)
     → ((q : Instance) → q ≢ next_at t tab → content_of g q ≡ content_of f q)
-    → Follows t (record (with_seat t tab (opened page (seat_at t tab))) { active = Some tab }) f g
+    → ContentsFollow t (record (with_seat t tab (opened page (seat_at t tab))) { active = Some tab }) f g
 next_follows t tab page f g beside within free begun blank others = record {
   lives = λ q. lives_by q (same next q) refl;
   kept = λ q was now. others q (λ e. clash (is_live t q) was (rw e (next_not_live t tab free)));
@@ -106,7 +106,7 @@ next_follows t tab page f g beside within free begun blank others = record {
 pub follows_started : (t : TabTable) (tab : ℕ) (page : Page) (who : Instance) (f g : ScreenState) → next_at t tab ≡ who → IsBeside t f → tab < 64 → (seat_at t tab).page ≡ None
     → is_open g who ≡ true → ((r c : ℕ) → r < 22 → c < 80 → content_at g who r c ≡ space)
     → ((q : Instance) → q ≢ who → content_of g q ≡ content_of f q)
-    → Follows t (record (with_seat t tab (opened page (seat_at t tab))) { active = Some tab }) f g
+    → ContentsFollow t (record (with_seat t tab (opened page (seat_at t tab))) { active = Some tab }) f g
 follows_started t tab page who f g is beside within free begun blank others =
     next_follows t tab page f g beside within free (ap (is_open g) is ∙ begun) (λ r c low left. ap (λ q. content_at g q r c) is ∙ blank r c low left) (λ q other. others q (λ e. other (e ∙ sym is)))
 
@@ -126,7 +126,7 @@ after_follows : (t : TabTable) (who : Instance) (page : Page) (f h g : ScreenSta
     → is_open h who ≡ false → ((q : Instance) → q ≢ who → content_of h q ≡ content_of f q)
     → is_open g (record { tab = who.tab; ord = who.ord + 1 }) ≡ true → ((r c : ℕ) → r < 22 → c < 80 → content_at g (record { tab = who.tab; ord = who.ord + 1 }) r c ≡ space)
     → ((q : Instance) → q ≢ record { tab = who.tab; ord = who.ord + 1 } → content_of g q ≡ content_of h q)
-    → Follows t (with_seat t who.tab (opened page (seat_at t who.tab))) f g
+    → ContentsFollow t (with_seat t who.tab (opened page (seat_at t who.tab))) f g
 after_follows t who page f h g beside lives ended kept begun blank others = record {
   lives = λ q. lives_by q (same next q) refl (same who q) refl;
   kept = λ q was now. kept_by q was now (same next q) refl (same who q) refl;
@@ -189,6 +189,6 @@ pub follows_replaced : (t : TabTable) (who : Instance) (page : Page) (next : Ins
     → is_open h who ≡ false → ((q : Instance) → q ≢ who → content_of h q ≡ content_of f q)
     → is_open g next ≡ true → ((r c : ℕ) → r < 22 → c < 80 → content_at g next r c ≡ space)
     → ((q : Instance) → q ≢ next → content_of g q ≡ content_of h q)
-    → Follows t (with_seat t who.tab (opened page (seat_at t who.tab))) f g
+    → ContentsFollow t (with_seat t who.tab (opened page (seat_at t who.tab))) f g
 follows_replaced t who page next f h g is beside lives ended kept begun blank others =
     after_follows t who page f h g beside lives ended kept (ap (is_open g) is ∙ begun) (λ r c low left. ap (λ q. content_at g q r c) is ∙ blank r c low left) (λ q other. others q (λ e. other (e ∙ sym is)))

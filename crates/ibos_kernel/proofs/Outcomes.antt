@@ -27,7 +27,7 @@ use Rattle.ibos_frame.specs.ScreenStates.{seen_at}
 use Rattle.ibos_model.specs.Screen.{screen, seen_row}
 use Rattle.ibos_model.specs.Outcomes.{accepted, denied, admitted, answer, open_outcome, start_outcome, switch_outcome, close_outcome, page_key_outcome, enter_outcome, click_outcome, look_outcome, draw_outcome, go_outcome, set_outcome, get_outcome, out}
 use Rattle.ibos_kernel.specs.Tables.{Parts, origin_at, started_by, gone_by, go_at, enter_at, is_entry, let_in, get_at, outcome_by}
-use Rattle.ibos_kernel.specs.Standing.{TabsStand, Holds, entry}
+use Rattle.ibos_kernel.specs.Standing.{TabsStand, PartsStand, entry}
 use Rattle.ibos_kernel.proofs.TabsStanding.{tab_of}
 use Rattle.ibos_kernel.proofs.ScreenSeen.{seen_same, looks_same}
 
@@ -85,7 +85,7 @@ active_lives t who is = by_tab t.active is
         subst P (sym e) h
 
 -- it is the journal's
-pub active_same : (J : Journal) (t : Parts) → Holds J t → active_of t.hosts J ≡ active_in t.tabs
+pub active_same : (J : Journal) (t : Parts) → PartsStand J t → active_of t.hosts J ≡ active_in t.tabs
 active_same J t stands = rw stands.active (by_tab t.tabs.active)
   where
     by_tab : (tab : Option ℕ) → option_and_then (tabs t.hosts J).live tab ≡ option_and_then (live_at t.tabs) tab
@@ -149,7 +149,7 @@ enter_at_seen : (T : Tabs) (t : TabTable) (r : Result Page Rule) → TabsStand T
 enter_at_seen T t r shows None is = refl
 enter_at_seen T t r shows (Some who) is = go_at_seen T t who r shows (active_lives t who is)
 
-pub outcome-seen : (J : Journal) (t : Parts) (act : Act) → Holds J t → outcome_by t act ≡ outcome_seen t act
+pub outcome-seen : (J : Journal) (t : Parts) (act : Act) → PartsStand J t → outcome_by t act ≡ outcome_seen t act
 outcome-seen J t (Start tab url) stands = start_seen (seat_at t.tabs tab).page tab (seat_at t.tabs tab).count (allowed t.hosts url)
 outcome-seen J t (Switch tab) stands = switch_seen (seat_at t.tabs tab).page tab (seat_at t.tabs tab).count
 outcome-seen J t (Close tab) stands = refl
@@ -165,7 +165,7 @@ outcome-seen J t (CookieSet side who text) stands = refl
 outcome-seen J t (CookieGet side who) stands = refl
 
 -- what is seen is the journal's screen
-pub seen_screen : (J : Journal) (t : Parts) → Holds J t → (r c : ℕ) → r < 25 → c < 80 → seen_at t.screen r c ≡ screen t.hosts J r c
+pub seen_screen : (J : Journal) (t : Parts) → PartsStand J t → (r c : ℕ) → r < 25 → c < 80 → seen_at t.screen r c ≡ screen t.hosts J r c
 seen_screen J t stands = seen_same J t stands.displays stands.tabs (active_same J t stands) (λ who. active_lives t.tabs who)
 
 -- Enter by the journal
@@ -173,14 +173,14 @@ enter_stands : (T : Tabs) (t : TabTable) (r : Result Page Rule) → TabsStand T 
 enter_stands T t r shows None is = refl
 enter_stands T t r shows (Some who) is = rw (shows.origin who (active_lives t who is), shows.count who.tab) refl
 
-press_stands : (J : Journal) (t : Parts) (key : Key) → Holds J t → press_seen t.hosts t.tabs t.focus key ≡ out t.hosts J (Press key)
+press_stands : (J : Journal) (t : Parts) (key : Key) → PartsStand J t → press_seen t.hosts t.tabs t.focus key ≡ out t.hosts J (Press key)
 press_stands J t (Byte byte) stands = rw (active_same J t stands, stands.displays.spot, stands.displays.entry_line) refl
 press_stands J t Back stands = rw (active_same J t stands, stands.displays.spot) refl
 press_stands J t Enter stands = rw (active_same J t stands, stands.displays.spot, stands.displays.entry_line)
     (ap (λ (row : Outcome). if is_entry t.focus.spot then row else page_key_outcome (active_in t.tabs) Enter)
     (enter_stands (tabs t.hosts J) t.tabs (allowed t.hosts t.focus.entry_line) stands.tabs (active_in t.tabs) refl))
 
-pub outcome_stands : (J : Journal) (t : Parts) (act : Act) → Holds J t → outcome_seen t act ≡ out t.hosts J act
+pub outcome_stands : (J : Journal) (t : Parts) (act : Act) → PartsStand J t → outcome_seen t act ≡ out t.hosts J act
 outcome_stands J t (Start tab url) stands = rw (stands.tabs.live tab, stands.tabs.count tab) refl
 outcome_stands J t (Switch tab) stands = rw (stands.tabs.live tab) refl
 outcome_stands J t (Close tab) stands = rw (stands.tabs.live tab) refl

@@ -21,7 +21,7 @@ use Rattle.ibos_model.specs.Focus.{focus_of, at_entry_line_by}
 use Rattle.ibos_model.specs.Screen.{cell_of, cell_by}
 use Rattle.ibos_model.specs.Outcomes.{denied, start_outcome}
 use Rattle.ibos_kernel.specs.Tables.{Parts, IsTied, is_entry, is_live, spot_of, origin_at, let_in, with_started, with_gone, with_entered, tabs_after, Serves}
-use Rattle.ibos_kernel.specs.Standing.{Holds, Displays, entry}
+use Rattle.ibos_kernel.specs.Standing.{PartsStand, Displays, entry}
 use Rattle.ibos_kernel.proofs.TabsStanding.{seat-with, page_there}
 use Rattle.ibos_kernel.proofs.Outcomes.{outcome_seen, lives_if, active_lives}
 
@@ -167,7 +167,7 @@ undrawn t (Go who url) outcome q r c tied is past = refl
 undrawn t (CookieSet side who text) outcome q r c tied is past = refl
 undrawn t (CookieGet side who) outcome q r c tied is past = refl
 
-pub step_displays : (J : Journal) (old new : Parts) (act : Act) (outcome : Outcome) → Holds J old → Fits act → Serves old act outcome new → outcome ≡ outcome_seen old act
+pub step_displays : (J : Journal) (old new : Parts) (act : Act) (outcome : Outcome) → PartsStand J old → Fits act → Serves old act outcome new → outcome ≡ outcome_seen old act
     → Displays (entry act outcome ∷ J) new
 unfolding focus_of cell_of
 step_displays J old new act outcome stands fits serves outcome_is = record {

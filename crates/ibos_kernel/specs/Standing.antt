@@ -46,7 +46,7 @@ pub record Displays (J : Journal) (t : Parts) : Type 0 where
   pub tied : IsTied t.tabs t.screen t.focus
 
 -- the kernel's parts stand for a journal, which is that of a run
-pub record Holds (J : Journal) (t : Parts) : Type 0 where
+pub record PartsStand (J : Journal) (t : Parts) : Type 0 where
   pub run : IsRun t.hosts J
   pub tabs : TabsStand (tabs t.hosts J) t.tabs
   pub active : active_tab J ≡ t.tabs.active
@@ -55,7 +55,7 @@ pub record Holds (J : Journal) (t : Parts) : Type 0 where
 
 -- the kernel stands for a journal
 pub record Stands (J : Journal) (t : Tables) : Type 0 where
-  pub parts : Holds J (parts_of t)
+  pub parts : PartsStand J (parts_of t)
   pub acts : length J ≡ t.acts
 
 -- the entry of an act that heard no frame

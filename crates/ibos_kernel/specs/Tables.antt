@@ -99,7 +99,7 @@ pub record IsTied (t : TabTable) (screen : ScreenState) (focus : Focused) : Type
   pub entry_line : t.active ≡ None → focus.spot ≡ Entry
 
 -- contents go with their instances: those that started have an empty one, and those that stayed keep theirs
-pub record Follows (old new : TabTable) (before after : ScreenState) : Type 0 where
+pub record ContentsFollow (old new : TabTable) (before after : ScreenState) : Type 0 where
   pub lives : IsOpenWhereLive new after
   pub kept : (q : Instance) → is_live old q ≡ true → is_live new q ≡ true → content_of after q ≡ content_of before q
   pub blank : (q : Instance) (r c : ℕ) → r < 22 → c < 80 → is_live old q ≡ false → is_live new q ≡ true → content_at after q r c ≡ space

@@ -8,7 +8,7 @@ ghost use Rattle.ibos_model.specs.Journal.{is_ok};
 ghost use Rattle.ibos_model.specs.Outcomes.{click_outcome, page_key_outcome};
 ghost use Rattle.ibos_origin.specs.Pages.{allowed};
 ghost use Rattle.ibos_page.specs.Tabs.{live_at, active_in};
-ghost use Rattle.ibos_kernel.specs.Tables.{press_at, enter_at, with_pressed, with_entered, focus_by, IsBeside, Follows};
+ghost use Rattle.ibos_kernel.specs.Tables.{press_at, enter_at, with_pressed, with_entered, focus_by, IsBeside, ContentsFollow};
 
 use crate::tabs::go;
 use ibos_focus::{ClickDone, Focus, KeyDone, Spot};
@@ -45,7 +45,7 @@ pub fn press(
         ≡ with_pressed hosts.now tabs.old focus.old (is_ok out.new.head) key) }
     ensures focus { OnOk result (focus.new
         ≡ focus_by tabs.old.active focus.old (is_ok out.new.head) (Press key)) }
-    ensures follows { OnOk result (Follows tabs.old tabs.new screen.old screen.new) }
+    ensures follows { OnOk result (ContentsFollow tabs.old tabs.new screen.old screen.new) }
     ensures denied { OnOk result (is_ok out.new.head ≡ false → screen.new ≡ screen.old) }
 {
     let active = tabs.active();
@@ -96,7 +96,7 @@ fn enter(
         then with_entered tabs.old active (allowed hosts.now focus.old.entry_line) else tabs.old)) }
     ensures focus { OnOk result (focus.new ≡ (if is_ok out.new.head
         then record { entry_line = []; spot = Spot.Content } else focus.old)) }
-    ensures follows { OnOk result (Follows tabs.old tabs.new screen.old screen.new) }
+    ensures follows { OnOk result (ContentsFollow tabs.old tabs.new screen.old screen.new) }
     ensures denied { OnOk result (is_ok out.new.head ≡ false → screen.new ≡ screen.old) }
 {
     let Some(who) = active else { unreachable!() };

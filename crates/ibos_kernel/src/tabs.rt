@@ -4,7 +4,7 @@ ghost use Rattle.ibos_model.specs.Journal.{is_ok};
 ghost use Rattle.ibos_model.specs.Outcomes.{accepted, denied, close_outcome};
 ghost use Rattle.ibos_origin.specs.Pages.{allowed};
 ghost use Rattle.ibos_page.specs.Tabs.{seat_at, live_at, start_in, closed, with_seat, without};
-ghost use Rattle.ibos_kernel.specs.Tables.{started_by, with_started, go_at, with_gone, IsBeside, Follows};
+ghost use Rattle.ibos_kernel.specs.Tables.{started_by, with_started, go_at, with_gone, IsBeside, ContentsFollow};
 
 use ibos_frame::Screen;
 use ibos_kinds::{Bytes, Head, Instance, Item, Memory, Outcome, Rule};
@@ -30,7 +30,7 @@ pub fn start(
         ≡ started_by (start_in tabs.old tab) (allowed hosts.now url.now)) }
     ensures tabs { OnOk result (tabs.new ≡ (if is_ok out.new.head
         then with_started tabs.old tab (allowed hosts.now url.now) else tabs.old)) }
-    ensures follows { OnOk result (Follows tabs.old tabs.new screen.old screen.new) }
+    ensures follows { OnOk result (ContentsFollow tabs.old tabs.new screen.old screen.new) }
     ensures denied { OnOk result (is_ok out.new.head ≡ false → screen.new ≡ screen.old) }
 {
     let who = match tabs.may_start(tab) {
@@ -81,7 +81,7 @@ pub fn close(tabs: &mut Tabs, screen: &mut Screen, tab: u8, out: &mut Outcome) -
     ensures tabs { OnOk result (tabs.new ≡ (if is_ok out.new.head
         then record (with_seat tabs.old tab (closed (seat_at tabs.old tab)))
         { active = without tab tabs.old.active } else tabs.old)) }
-    ensures follows { OnOk result (Follows tabs.old tabs.new screen.old screen.new) }
+    ensures follows { OnOk result (ContentsFollow tabs.old tabs.new screen.old screen.new) }
     ensures denied { OnOk result (is_ok out.new.head ≡ false → screen.new ≡ screen.old) }
 {
     match tabs.close(tab) {
@@ -114,7 +114,7 @@ pub fn go(
     ensures outcome { OnOk result (out.new ≡ go_at tabs.old who (allowed hosts.now url.now)) }
     ensures tabs { OnOk result (tabs.new ≡ (if is_ok out.new.head
         then with_gone tabs.old who (allowed hosts.now url.now) else tabs.old)) }
-    ensures follows { OnOk result (Follows tabs.old tabs.new screen.old screen.new) }
+    ensures follows { OnOk result (ContentsFollow tabs.old tabs.new screen.old screen.new) }
     ensures denied { OnOk result (is_ok out.new.head ≡ false → screen.new ≡ screen.old) }
 {
     match Page::read(alloc, hosts, url) {
@@ -147,7 +147,7 @@ fn go_to(
     ensures outcome { OnOk result (out.new ≡ go_at tabs.old who (Ok page)) }
     ensures tabs { OnOk result (tabs.new ≡ (if is_ok out.new.head
         then with_gone tabs.old who (Ok page) else tabs.old)) }
-    ensures follows { OnOk result (Follows tabs.old tabs.new screen.old screen.new) }
+    ensures follows { OnOk result (ContentsFollow tabs.old tabs.new screen.old screen.new) }
     ensures denied { OnOk result (is_ok out.new.head ≡ false → screen.new ≡ screen.old) }
 {
     match tabs.go(who, page) {
