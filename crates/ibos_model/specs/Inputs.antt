@@ -9,7 +9,7 @@ use Rattle.ibos_script.specs.Lines.{line_in}
 use Rattle.ibos_origin.specs.declared.fault.HostFault.{HostFault}
 use Rattle.ibos_origin.specs.HostFaults as host
 use Rattle.ibos_origin.specs.Hosts.{HostTable}
-use Rattle.ibos_origin.specs.Lines.{lines_of}
+use Rattle.ibos_text.specs.Lines.{lines_of}
 use Rattle.ibos_origin.specs.Tables.{hosts_in}
 use Rattle.ibos_model.specs.Journal.{Journal}
 use Rattle.ibos_model.specs.Runs.{run}

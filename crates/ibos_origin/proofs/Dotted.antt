@@ -14,7 +14,7 @@ use Rattle.std.proofs.lemmas.List.Elements.{All-from_get_or}
 use Rattle.std.proofs.lemmas.List.Splits.{slice_split_at, slice_split_none, join_with_byte-slice_split}
 use Rattle.std.specs.Cmp.Lexicographic.{nat_list_eq_equiv, bytes_decides}
 use Rattle.std.proofs.lemmas.Str.Parse.{digit_at}
-use Rattle.ibos_origin.specs.Words.{parts_of}
+use Rattle.ibos_text.specs.Parts.{parts_of}
 use Rattle.ibos_origin.specs.Addresses.{is_octet, big_endian, addr_in}
 
 digit_is_no_dot : (c : ℕ) → (48 ≤ c) × (c ≤ 57) → (c == 46) ≡ false

@@ -1,6 +1,4 @@
-mod Pieces
 mod Named
-mod Cuts
 mod Macs
 mod Dotted
 mod Tabled

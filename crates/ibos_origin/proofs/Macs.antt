@@ -6,7 +6,7 @@ use Rattle.std.specs.List.{list_all}
 use Rattle.std.specs.Str.Parse.{digits_value}
 use Rattle.std.proofs.lemmas.Bool.Decides.{nat_tests}
 use Rattle.std.proofs.lemmas.List.Splits.{length-slice_split}
-use Rattle.ibos_origin.specs.Words.{parts_of}
+use Rattle.ibos_text.specs.Parts.{parts_of}
 use Rattle.ibos_origin.specs.Addresses.{is_pair, mac_in}
 
 -- the address whose first `count` pairs are `mac`

@@ -5,7 +5,7 @@ use Rattle.std.proofs.lemmas.Bool.Decides.{nat_tests}
 use Rattle.ibos_origin.specs.declared.fault.HostFault.{HostFault}
 use Rattle.ibos_origin.specs.declared.fault.HostsFault.{HostsFault}
 use Rattle.ibos_origin.specs.declared.fault.HostsFault.TheVariants.{At, Memory}
-use Rattle.ibos_origin.specs.Lines.{lines_of, pieces_of}
+use Rattle.ibos_text.specs.Lines.{lines_of, pieces_of}
 use Rattle.ibos_origin.specs.Hosts.{HostTable}
 use Rattle.ibos_origin.specs.Tables.{Told, nothing_told, with_line, table_of, hosts_in}
 use Rattle.ibos_origin.specs.Reads.{Refuses, Reads}

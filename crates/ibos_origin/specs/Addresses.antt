@@ -3,7 +3,7 @@ use Rattle.std.specs.Prelude.{ℕ, ◌+◌, ◌*◌, List, Bool, ◌==◌, ◌&&
 use Rattle.std.specs.Char.{is_digit}
 use Rattle.std.specs.List.{list_all}
 use Rattle.std.specs.Str.Parse.{digits_value}
-use Rattle.ibos_origin.specs.Words.{parts_of}
+use Rattle.ibos_text.specs.Parts.{parts_of}
 
 -- the number of these bytes, the first the highest
 abbrev pub big_endian : List ℕ → ℕ

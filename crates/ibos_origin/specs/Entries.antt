@@ -1,7 +1,7 @@
 -- What each line of the host table says.
 use Rattle.std.specs.Prelude.{ℕ, List, [], ◌∷◌, Bool, true, ◌==◌, ◌&&◌, ◌||◌, nat_lt, nat_le, length, bytes_eq, codes, Option, Some, None, option_map, if◌then◌else◌}
 use Rattle.std.specs.List.{list_all}
-use Rattle.ibos_origin.specs.Words.{words_of}
+use Rattle.ibos_text.specs.Words.{words_of}
 use Rattle.ibos_origin.specs.Addresses.{addr_in, mac_in}
 
 pub data Entry : Type 0 where
@@ -17,6 +17,11 @@ is_name_byte b = (nat_le 97 b && nat_le b 122) || (nat_le 48 b && nat_le b 57) |
 -- 1 to 253 such bytes
 abbrev pub is_name : List ℕ → Bool
 is_name word = nat_lt 0 (length word) && nat_le (length word) 253 && list_all is_name_byte word
+
+-- the word, if there is one word
+abbrev pub only_word : List (List ℕ) → Option (List ℕ)
+only_word (word ∷ []) = Some word
+only_word words = None
 
 -- behind `self`: ADDR MAC
 abbrev pub own_of : Option ℕ → Option ℕ → Option Entry

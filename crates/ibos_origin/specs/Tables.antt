@@ -2,7 +2,7 @@
 use Rattle.std.specs.Prelude.{◌≡◌, ℕ, ◌+◌, true, List, [], ◌∷◌, ◌++◌, nat_lt, nat_le, length, fold, Option, Some, None, is_some, Result, Ok, Err, if◌then◌else◌}
 use Rattle.ibos_origin.specs.declared.fault.HostFault.{HostFault}
 use Rattle.ibos_origin.specs.declared.fault.HostFault.TheVariants.{Form, Twice, Many, NoSelf, TooLong}
-use Rattle.ibos_origin.specs.Lines.{lines_of}
+use Rattle.ibos_text.specs.Lines.{lines_of}
 use Rattle.std.specs.List.{list_all}
 use Rattle.ibos_origin.specs.Entries.{Entry, is_name_byte, Nothing, Own, Gateway, Named, entry_in}
 use Rattle.ibos_origin.specs.Hosts.{Host, HostTable, address_of, host_of}

@@ -6,7 +6,7 @@ ghost use Rattle.std.specs.Str.Parse.{digits_value};
 ghost use Rattle.ibos_origin.specs.Addresses as spec;
 ghost use Rattle.ibos_origin.specs.Addresses.{is_pair};
 
-use crate::words::split_first;
+use ibos_text::split_first;
 use std::net::Ipv4Addr;
 
 const PAIRS: usize = 6;

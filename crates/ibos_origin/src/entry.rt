@@ -2,13 +2,13 @@
 ghost use Rattle.std.specs.Prelude.{◌≡◌};
 ghost use Rattle.std.specs.Option.{option_map, option_copied};
 ghost use Rattle.std.specs.List.{list_all};
-ghost use Rattle.ibos_origin.specs.Words.{words_of, only_word};
+ghost use Rattle.ibos_text.specs.Words.{words_of};
 ghost use Rattle.ibos_origin.specs.Entries as spec;
-ghost use Rattle.ibos_origin.specs.Entries.{entry_in, entry_by, own_in, gateway_in, named_in};
+ghost use Rattle.ibos_origin.specs.Entries.{entry_in, entry_by, only_word, own_in, gateway_in, named_in};
 ghost use Rattle.ibos_origin.specs.EntryViews.{entry_of};
 
 use crate::addresses::{addr_in, mac_in};
-use crate::words::next_word;
+use ibos_text::next_word;
 
 const LONGEST_NAME: usize = 253;
 

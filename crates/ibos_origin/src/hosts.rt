@@ -5,8 +5,8 @@ ghost use Rattle.ibos_origin.specs.Hosts.{address_of};
 use crate::entry::{Entry, read_entry};
 use crate::fault::{HostFault, HostsFault};
 use crate::index::HostIndex;
-use crate::lines::next_line;
 use ibos_kinds::Local;
+use ibos_text::next_line;
 use std::alloc::Global;
 use std::marker::Model;
 

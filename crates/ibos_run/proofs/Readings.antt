@@ -3,7 +3,7 @@ use Rattle.std.proofs.Common.{◌≡◌, ℕ, ◌+◌, ◌<◌, List, [], ◌∷
 use Rattle.std.proofs.lemmas.Bool.Decides.{nat_tests}
 use Rattle.std.specs.Prelude.{if◌then◌else◌, ◌==◌, ◌&&◌, MatchOption}
 use Rattle.ibos_script.specs.Lines.{line_in}
-use Rattle.ibos_origin.specs.Lines.{lines_of, pieces_of, onto_first, without_return}
+use Rattle.ibos_text.specs.Lines.{lines_of, pieces_of, onto_first, without_return}
 use Rattle.ibos_model.specs.Inputs.{Reading, reading_by, reading_from, refused_by, too_long, is_last}
 use Rattle.ibos_run.specs.declared.script.Next.{Next}
 use Rattle.ibos_run.specs.Script.{Leads}

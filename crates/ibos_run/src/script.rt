@@ -1,12 +1,12 @@
 // A script, act by act.
 ghost use Rattle.std.specs.Prelude.{◌≡◌, ◌≤◌, ◌<◌, ◌+◌, ◌^◌, ◌&&◌, length, IfOk, MatchOption, if◌then◌else◌};
 ghost use Rattle.ibos_script.specs.Lines.{line_in};
-ghost use Rattle.ibos_origin.specs.Lines.{lines_of};
+ghost use Rattle.ibos_text.specs.Lines.{lines_of};
 ghost use Rattle.ibos_model.specs.Inputs.{Reading, is_last, reading_by, reading_from, reading_of, refused_by, too_long};
 
 use ibos_kinds::{Act, Memory};
-use ibos_origin::lines::next_line;
 use ibos_script::{Line, LineFault, read_line};
+use ibos_text::next_line;
 use std::alloc::Global;
 use std::marker::Model;
 

@@ -6,7 +6,8 @@ use Rattle.hex.specs.declared.error.FromHexError.{FromHexError}
 use Rattle.ibos_kinds.specs.declared.names.Instance.{Instance}
 use Rattle.ibos_kinds.specs.declared.names.Key.{Key}
 use Rattle.ibos_kinds.specs.declared.names.Key.TheVariants.{Byte, Enter, Back}
-use Rattle.ibos_script.specs.Words.{run_len, first_word, after_word, is_word}
+use Rattle.ibos_text.specs.Parts.{len_before}
+use Rattle.ibos_text.specs.Words.{is_word}
 
 abbrev pub is_digit : ℕ → Bool
 is_digit b = nat_le 48 b && nat_le b 57
@@ -30,15 +31,7 @@ instance_parted tab (dot ∷ ord) = instance_named (number_in 64 tab) (number_in
 
 -- `T.N`: a tab, the first dot, and an ordinal
 unfoldable pub instance_in : List ℕ → Option Instance
-instance_in word = instance_parted (take (run_len 46 word) word) (drop (run_len 46 word) word)
-
-abbrev pub pair_named : Option ℕ → Option ℕ → Option (ℕ × ℕ)
-pair_named (Some first) (Some second) = Some (first, second)
-pair_named first second = None
-
--- two numbers below 2^32
-unfoldable pub pair_in : List ℕ → Option (ℕ × ℕ)
-pair_in fields = pair_named (number_in 4294967296 (first_word fields)) (number_in 4294967296 (first_word (after_word fields)))
+instance_in word = instance_parted (take (len_before 46 word) word) (drop (len_before 46 word) word)
 
 -- a byte that a key writes
 abbrev pub key_named : Result (List ℕ) FromHexError → Option Key

@@ -1,5 +1,5 @@
-pub mod Words
 pub mod Fields
 pub mod Faults
+pub mod Forms
 pub mod Lines
 pub mod Printed

@@ -1,17 +1,16 @@
 // The fields of a line, each read from its word.
-ghost use Rattle.std.specs.Prelude.{◌≡◌, ◌≤◌, ◌<◌, ◌^◌, true, length, IfOk, IfSome};
+ghost use Rattle.std.specs.Prelude.{◌≡◌, ◌≤◌, ◌<◌, ◌^◌, None, Some, true, false, length, MatchOption, MatchResult, IfOk, IfSome};
 ghost use Rattle.std.specs.List.{list_all};
 ghost use Rattle.ibos_kinds.specs.Limits.{IsKey, IsNamed};
+ghost use Rattle.ibos_script.specs.Fields.{number_in, instance_in, key_in, hex_in, is_digit};
 ghost use Rattle.ibos_script.specs.Fields as spec;
-ghost use Rattle.ibos_script.specs.Fields.{number_in, pair_in, instance_in, key_in, hex_in, is_digit};
 
-use crate::words::{run_len, split_word};
 use hex::FromHexError;
 use ibos_kinds::{Bytes, Instance, Key, Memory};
+use ibos_text::len_before;
 use std::alloc::Global;
 
-/// Numbers but for tabs, ordinals and names are below this.
-const BOUND: u64 = 1 << 32;
+const MAX_DIGITS: usize = 10;
 
 /// A decimal number of 1 to 10 digits, leading zeros among them, that is below the bound.
 #[tactic(auto, unfolding(crate::specs::Fields::number_in))]
@@ -19,29 +18,26 @@ pub fn read_number(bound: u64, word: &[u8]) -> Option<u64>
     ensures number { result ≡ number_in bound word.now }
     ensures below { IfSome result (λ n. n < bound) }
 {
-    if word.is_empty() || word.len() > 10 || !is_decimal(word) {
+    if word.is_empty() || word.len() > MAX_DIGITS {
         return None;
     }
-    let value = value_of(word);
+    let value = value_of(word)?;
     if value < bound { Some(value) } else { None }
 }
 
-fn is_decimal(word: &[u8]) -> bool
-    ensures { result ≡ list_all is_digit word.now }
-{
-    word.iter().all(|b| *b >= b'0' && *b <= b'9')
-}
-
-fn value_of(digits: &[u8]) -> u64
-    requires few { length digits.now ≤ 10 }
-    requires digits { list_all is_digit digits.now ≡ true }
-    ensures { result ≡ spec.value_of digits.now }
+// The value of a word, if its bytes are decimal digits.
+fn value_of(word: &[u8]) -> Option<u64>
+    requires few { length word.now ≤ 10 }
+    ensures { MatchOption result (list_all is_digit word.now ≡ false) (λ value. (list_all is_digit word.now ≡ true) × (value ≡ spec.value_of word.now)) }
 {
     let mut value = 0u64;
-    for b in digits {
+    for b in word {
+        if *b < b'0' || *b > b'9' {
+            return None;
+        }
         value = 10 * value + u64::from(*b - b'0');
     }
-    value
+    Some(value)
 }
 
 /// A page instance: its tab below 64, a dot, and its ordinal below 32.
@@ -50,7 +46,7 @@ pub fn read_instance(word: &[u8]) -> Option<Instance>
     ensures instance { result ≡ instance_in word.now }
     ensures named { IfSome result IsNamed }
 {
-    let (tab, dotted) = word.split_at(run_len(b'.', word));
+    let (tab, dotted) = word.split_at(len_before(word, b'.'));
     let [_, ord @ ..] = dotted else {
         return None;
     };
@@ -64,22 +60,6 @@ pub fn read_instance(word: &[u8]) -> Option<Instance>
         tab: tab as u8,
         ord: ord as u8,
     })
-}
-
-/// Two numbers below 2^32, in two words.
-#[tactic(auto, unfolding(crate::specs::Fields::pair_in))]
-pub fn read_pair(fields: &[u8]) -> Option<(u32, u32)>
-    ensures { result ≡ pair_in fields.now }
-{
-    let (first, rest) = split_word(fields);
-    let (second, _) = split_word(rest);
-    let Some(first) = read_number(BOUND, first) else {
-        return None;
-    };
-    let Some(second) = read_number(BOUND, second) else {
-        return None;
-    };
-    Some((first as u32, second as u32))
 }
 
 /// A key: `enter`, `back`, or the two hexadecimal digits of the byte that it writes.

@@ -5,7 +5,6 @@ mod fault;
 mod fields;
 mod lines;
 mod printed;
-mod words;
 
 pub use fault::LineFault;
 pub use lines::{Line, read_line};

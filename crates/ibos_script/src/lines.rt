@@ -1,19 +1,24 @@
 // The lines of a script.
-ghost use Rattle.std.specs.Prelude.{◌≡◌, IfOk, IfSome};
+ghost use Rattle.std.specs.Prelude.{◌≡◌, true, false, IfOk, IfSome, MatchResult};
 ghost use Rattle.std.specs.List.{list_all};
+ghost use Rattle.ibos_kinds.specs.declared.act.Act.TheVariants.{Start, Switch, Close, Press, Click, Look, Go, Draw, CookieSet, CookieGet};
+ghost use Rattle.ibos_text.specs.Words.{after_spaces, first_word, after_word, has_word};
 ghost use Rattle.ibos_script.specs.Faults.{Gives};
-ghost use Rattle.ibos_script.specs.Words.{after_spaces};
+ghost use Rattle.ibos_script.specs.Forms.{nothing, rest, tab, number, key, hex, form, form_of};
+ghost use Rattle.ibos_script.specs.Lines.{LineFits, line_in, act_in, user_in, page_in, net_in, cookie_in};
 ghost use Rattle.ibos_script.specs.Lines as spec;
-ghost use Rattle.ibos_script.specs.Lines.{LineFits, line_in, act_in, user_in, page_in, net_in, open_in, switch_in, close_in, press_in, click_in, look_in, go_in, draw_in, cookie_in, cookie_set_in, cookie_get_in, after_two};
 
 use crate::fault::LineFault;
-use crate::fields::{read_hex, read_instance, read_key, read_number, read_pair};
-use crate::words::{has_word, skip_spaces, split_word};
+use crate::fields::{read_hex, read_instance, read_key, read_number};
 use ibos_kinds::{Act, Bytes, Memory, Side};
+use ibos_text::{next_word, skip_spaces};
 use std::alloc::Global;
 
 /// The longest line, in bytes.
-const LONGEST: usize = 8192;
+const MAX_LINE: usize = 8192;
+
+/// Numbers but for tabs and ordinals are below this.
+const BOUND: u64 = 1 << 32;
 
 /// What a line of a script asks for.
 #[derive(Debug, PartialEq, Eq, Drop)]
@@ -43,23 +48,31 @@ pub fn read_line(alloc: Global, line: &[u8]) -> Result<Option<Line>, LineFault>
     ensures line { Gives result (line_in line.now) }
     ensures fits { IfOk result (λ line. IfSome line LineFits) }
 {
-    if line.len() > LONGEST {
+    if line.len() > MAX_LINE {
         return Err(LineFault::Long);
     }
     if !is_printable(line) {
         return Err(LineFault::Byte);
     }
-    if is_comment(line) || !has_word(line) {
+    if is_comment(line) {
         return Ok(None);
     }
-    let line = read_act(alloc, line)?;
+    let Some((actor, rest)) = next_word(line) else {
+        return Ok(None);
+    };
+    let line = read_act(alloc, actor, rest)?;
     Ok(Some(line))
 }
 
+// All bytes are looked at, wherever the first wrong one stands, so that many are compared at once.
 fn is_printable(line: &[u8]) -> bool
     ensures { result ≡ list_all spec.is_printable line.now }
 {
-    line.iter().all(|b| *b >= b' ' && *b <= b'~')
+    let mut all = true;
+    for b in line {
+        all = all & (*b >= b' ') & (*b <= b'~');
+    }
+    all
 }
 
 fn is_comment(line: &[u8]) -> bool
@@ -69,271 +82,286 @@ fn is_comment(line: &[u8]) -> bool
 }
 
 #[tactic(auto, unfolding(crate::specs::Lines::act_in))]
-fn read_act(alloc: Global, line: &[u8]) -> Result<Line, LineFault>
-    ensures line { Gives result (act_in line.now) }
+fn read_act(alloc: Global, actor: &[u8], line: &[u8]) -> Result<Line, LineFault>
+    ensures line { Gives result (act_in actor.now line.now) }
     ensures fits { IfOk result LineFits }
 {
-    let (actor, line) = split_word(line);
+    let (second, line) = split_word(line);
     if actor == b"user".as_slice() {
-        return read_user(alloc, line);
+        return read_user(alloc, second, line);
     }
-    let (who, line) = split_word(line);
+    let (third, line) = split_word(line);
     if actor == b"page".as_slice() {
-        return read_page(alloc, who, line);
+        return read_page(alloc, second, third, line);
     }
     if actor == b"net".as_slice() {
-        return read_net(alloc, who, line);
+        return read_net(alloc, second, third, line);
     }
     Err(LineFault::Word)
 }
 
 #[tactic(auto, unfolding(crate::specs::Lines::user_in))]
-fn read_user(alloc: Global, line: &[u8]) -> Result<Line, LineFault>
-    ensures line { Gives result (user_in line.now) }
+fn read_user(alloc: Global, command: &[u8], line: &[u8]) -> Result<Line, LineFault>
+    ensures line { Gives result (user_in command.now line.now) }
     ensures fits { IfOk result LineFits }
 {
-    let (command, fields) = split_word(line);
     if command == b"open".as_slice() {
-        return read_open(alloc, fields);
+        return read_open(alloc, line);
     }
     if command == b"switch".as_slice() {
-        return read_switch(fields);
+        return read_switch(line);
     }
     if command == b"close".as_slice() {
-        return read_close(fields);
+        return read_close(line);
     }
     if command == b"key".as_slice() {
-        return read_press(fields);
+        return read_press(line);
     }
     if command == b"click".as_slice() {
-        return read_click(fields);
+        return read_click(line);
     }
     if command == b"look".as_slice() {
-        return read_look(fields);
+        return read_look(line);
     }
     Err(LineFault::Word)
 }
 
 #[tactic(auto, unfolding(crate::specs::Lines::page_in))]
-fn read_page(alloc: Global, who: &[u8], line: &[u8]) -> Result<Line, LineFault>
-    ensures line { Gives result (page_in who.now line.now) }
+fn read_page(alloc: Global, who: &[u8], command: &[u8], line: &[u8]) -> Result<Line, LineFault>
+    ensures line { Gives result (page_in who.now command.now line.now) }
     ensures fits { IfOk result LineFits }
 {
-    let (command, fields) = split_word(line);
     if command == b"go".as_slice() {
-        return read_go(alloc, who, fields);
+        return read_go(alloc, who, line);
     }
     if command == b"draw".as_slice() {
-        return read_draw(alloc, who, fields);
+        return read_draw(alloc, who, line);
     }
     if command == b"cookie".as_slice() {
-        return read_cookie(alloc, Side::Page, who, fields);
+        let (command, line) = split_word(line);
+        return read_cookie(alloc, Side::Page, who, command, line);
     }
     Err(LineFault::Word)
 }
 
 #[tactic(auto, unfolding(crate::specs::Lines::net_in))]
-fn read_net(alloc: Global, who: &[u8], line: &[u8]) -> Result<Line, LineFault>
-    ensures line { Gives result (net_in who.now line.now) }
+fn read_net(alloc: Global, who: &[u8], command: &[u8], line: &[u8]) -> Result<Line, LineFault>
+    ensures line { Gives result (net_in who.now command.now line.now) }
     ensures fits { IfOk result LineFits }
 {
-    let (command, fields) = split_word(line);
     if command == b"cookie".as_slice() {
-        return read_cookie(alloc, Side::Net, who, fields);
+        let (command, line) = split_word(line);
+        return read_cookie(alloc, Side::Net, who, command, line);
     }
     Err(LineFault::Word)
 }
 
 #[tactic(auto, unfolding(crate::specs::Lines::cookie_in))]
-fn read_cookie(alloc: Global, side: Side, who: &[u8], line: &[u8]) -> Result<Line, LineFault>
-    ensures line { Gives result (cookie_in side who.now line.now) }
+fn read_cookie(
+    alloc: Global,
+    side: Side,
+    who: &[u8],
+    command: &[u8],
+    line: &[u8],
+) -> Result<Line, LineFault>
+    ensures line { Gives result (cookie_in side who.now command.now line.now) }
     ensures fits { IfOk result LineFits }
 {
-    let (command, fields) = split_word(line);
     if command == b"set".as_slice() {
-        return read_cookie_set(alloc, side, who, fields);
+        return read_cookie_set(alloc, side, who, line);
     }
     if command == b"get".as_slice() {
-        return read_cookie_get(side, who, fields);
+        return read_cookie_get(side, who, line);
     }
     Err(LineFault::Word)
 }
 
-#[tactic(auto, unfolding(crate::specs::Lines::open_in))]
-fn read_open(alloc: Global, fields: &[u8]) -> Result<Line, LineFault>
-    ensures line { Gives result (open_in fields.now) }
+fn read_open(alloc: Global, line: &[u8]) -> Result<Line, LineFault>
+    ensures line { Gives result (form (tab rest) Start line.now) }
     ensures fits { IfOk result LineFits }
 {
-    if !has_word(fields) {
-        return Err(LineFault::Count);
-    }
-    let (tab, url) = split_word(fields);
+    let (tab, rest) = take_word(line)?;
     let Some(tab) = read_number(64, tab) else {
         return Err(LineFault::Number);
     };
-    let url = read_rest(alloc, url)?;
+    let url = read_rest(alloc, rest)?;
     Ok(Line::Act(Act::Start {
         tab: tab as u8,
         url,
     }))
 }
 
-#[tactic(auto, unfolding(crate::specs::Lines::switch_in))]
-fn read_switch(fields: &[u8]) -> Result<Line, LineFault>
-    ensures line { Gives result (switch_in fields.now) }
+fn read_switch(line: &[u8]) -> Result<Line, LineFault>
+    ensures line { Gives result (form (tab nothing) Switch line.now) }
     ensures fits { IfOk result LineFits }
 {
-    let (tab, after) = split_word(fields);
-    if !has_word(fields) || has_word(after) {
-        return Err(LineFault::Count);
-    }
+    let (tab, rest) = take_word(line)?;
+    end_line(rest)?;
     let Some(tab) = read_number(64, tab) else {
         return Err(LineFault::Number);
     };
     Ok(Line::Act(Act::Switch { tab: tab as u8 }))
 }
 
-#[tactic(auto, unfolding(crate::specs::Lines::close_in))]
-fn read_close(fields: &[u8]) -> Result<Line, LineFault>
-    ensures line { Gives result (close_in fields.now) }
+fn read_close(line: &[u8]) -> Result<Line, LineFault>
+    ensures line { Gives result (form (tab nothing) Close line.now) }
     ensures fits { IfOk result LineFits }
 {
-    let (tab, after) = split_word(fields);
-    if !has_word(fields) || has_word(after) {
-        return Err(LineFault::Count);
-    }
+    let (tab, rest) = take_word(line)?;
+    end_line(rest)?;
     let Some(tab) = read_number(64, tab) else {
         return Err(LineFault::Number);
     };
     Ok(Line::Act(Act::Close { tab: tab as u8 }))
 }
 
-#[tactic(auto, unfolding(crate::specs::Lines::press_in))]
-fn read_press(fields: &[u8]) -> Result<Line, LineFault>
-    ensures line { Gives result (press_in fields.now) }
+fn read_press(line: &[u8]) -> Result<Line, LineFault>
+    ensures line { Gives result (form (key nothing) Press line.now) }
     ensures fits { IfOk result LineFits }
 {
-    let (key, after) = split_word(fields);
-    if !has_word(fields) || has_word(after) {
-        return Err(LineFault::Count);
-    }
+    let (key, rest) = take_word(line)?;
+    end_line(rest)?;
     let Some(key) = read_key(key) else {
         return Err(LineFault::Number);
     };
     Ok(Line::Act(Act::Press { key }))
 }
 
-#[tactic(auto, unfolding(crate::specs::Lines::click_in))]
-fn read_click(fields: &[u8]) -> Result<Line, LineFault>
-    ensures line { Gives result (click_in fields.now) }
+fn read_click(line: &[u8]) -> Result<Line, LineFault>
+    ensures line { Gives result (form (number (number nothing)) Click line.now) }
     ensures fits { IfOk result LineFits }
 {
-    let (_, col) = split_word(fields);
-    if !has_word(col) || has_word(skip_two(fields)) {
-        return Err(LineFault::Count);
-    }
-    let Some((row, col)) = read_pair(fields) else {
+    let (row, rest) = take_word(line)?;
+    let (col, rest) = take_word(rest)?;
+    end_line(rest)?;
+    let Some(row) = read_number(BOUND, row) else {
         return Err(LineFault::Number);
     };
-    Ok(Line::Act(Act::Click { row, col }))
+    let Some(col) = read_number(BOUND, col) else {
+        return Err(LineFault::Number);
+    };
+    Ok(Line::Act(Act::Click {
+        row: row as u32,
+        col: col as u32,
+    }))
 }
 
-#[tactic(auto, unfolding(crate::specs::Lines::look_in))]
-fn read_look(rest: &[u8]) -> Result<Line, LineFault>
-    ensures line { Gives result (look_in rest.now) }
+fn read_look(line: &[u8]) -> Result<Line, LineFault>
+    ensures line { Gives result (form nothing Look line.now) }
     ensures fits { IfOk result LineFits }
 {
-    if has_word(rest) {
-        return Err(LineFault::Count);
-    }
+    end_line(line)?;
     Ok(Line::Act(Act::Look))
 }
 
-// What follows two words.
-fn skip_two(line: &[u8]) -> &[u8]
-    ensures { result.now ≡ after_two line.now }
-{
-    let (_, rest) = split_word(line);
-    let (_, rest) = split_word(rest);
-    rest
-}
-
-#[tactic(auto, unfolding(crate::specs::Lines::draw_in))]
-fn read_draw(alloc: Global, who: &[u8], fields: &[u8]) -> Result<Line, LineFault>
-    ensures line { Gives result (draw_in who.now fields.now) }
+fn read_draw(alloc: Global, who: &[u8], line: &[u8]) -> Result<Line, LineFault>
+    ensures line { Gives result (form_of (number (number (number (number (hex nothing))))) Draw who.now line.now) }
     ensures fits { IfOk result LineFits }
 {
-    let sizes = skip_two(fields);
-    let last = skip_two(sizes);
-    let (hex, after) = split_word(last);
-    if !has_word(last) || has_word(after) {
-        return Err(LineFault::Count);
-    }
+    let (row, rest) = take_word(line)?;
+    let (col, rest) = take_word(rest)?;
+    let (height, rest) = take_word(rest)?;
+    let (width, rest) = take_word(rest)?;
+    let (pixels, rest) = take_word(rest)?;
+    end_line(rest)?;
     let Some(who) = read_instance(who) else {
         return Err(LineFault::Number);
     };
-    let Some((row, col)) = read_pair(fields) else {
+    let Some(row) = read_number(BOUND, row) else {
         return Err(LineFault::Number);
     };
-    let Some((height, width)) = read_pair(sizes) else {
+    let Some(col) = read_number(BOUND, col) else {
         return Err(LineFault::Number);
     };
-    let Some(pixels) = read_hex(alloc, hex)? else {
+    let Some(height) = read_number(BOUND, height) else {
+        return Err(LineFault::Number);
+    };
+    let Some(width) = read_number(BOUND, width) else {
+        return Err(LineFault::Number);
+    };
+    let Some(pixels) = read_hex(alloc, pixels)? else {
         return Err(LineFault::Hex);
     };
     Ok(Line::Act(Act::Draw {
         who,
-        row,
-        col,
-        height,
-        width,
+        row: row as u32,
+        col: col as u32,
+        height: height as u32,
+        width: width as u32,
         pixels,
     }))
 }
 
-#[tactic(auto, unfolding(crate::specs::Lines::go_in))]
-fn read_go(alloc: Global, who: &[u8], fields: &[u8]) -> Result<Line, LineFault>
-    ensures line { Gives result (go_in who.now fields.now) }
+fn read_go(alloc: Global, who: &[u8], line: &[u8]) -> Result<Line, LineFault>
+    ensures line { Gives result (form_of rest Go who.now line.now) }
     ensures fits { IfOk result LineFits }
 {
     let Some(who) = read_instance(who) else {
         return Err(LineFault::Number);
     };
-    let url = read_rest(alloc, fields)?;
+    let url = read_rest(alloc, line)?;
     Ok(Line::Act(Act::Go { who, url }))
 }
 
-#[tactic(auto, unfolding(crate::specs::Lines::cookie_set_in))]
-fn read_cookie_set(alloc: Global, side: Side, who: &[u8], fields: &[u8]) -> Result<Line, LineFault>
-    ensures line { Gives result (cookie_set_in side who.now fields.now) }
+fn read_cookie_set(alloc: Global, side: Side, who: &[u8], line: &[u8]) -> Result<Line, LineFault>
+    ensures line { Gives result (form_of rest (CookieSet side) who.now line.now) }
     ensures fits { IfOk result LineFits }
 {
     let Some(who) = read_instance(who) else {
         return Err(LineFault::Number);
     };
-    let text = read_rest(alloc, fields)?;
+    let text = read_rest(alloc, line)?;
     Ok(Line::Act(Act::CookieSet { side, who, text }))
 }
 
-#[tactic(auto, unfolding(crate::specs::Lines::cookie_get_in))]
-fn read_cookie_get(side: Side, who: &[u8], fields: &[u8]) -> Result<Line, LineFault>
-    ensures line { Gives result (cookie_get_in side who.now fields.now) }
+fn read_cookie_get(side: Side, who: &[u8], line: &[u8]) -> Result<Line, LineFault>
+    ensures line { Gives result (form_of nothing (CookieGet side) who.now line.now) }
     ensures fits { IfOk result LineFits }
 {
-    if has_word(fields) {
-        return Err(LineFault::Count);
-    }
+    end_line(line)?;
     let Some(who) = read_instance(who) else {
         return Err(LineFault::Number);
     };
     Ok(Line::Act(Act::CookieGet { side, who }))
 }
 
-// The rest of a line after the spaces at its front.
-fn read_rest(alloc: Global, fields: &[u8]) -> Result<Bytes, Memory>
-    ensures { IfOk result (λ rest. rest ≡ after_spaces fields.now) }
+// The first word of a line, empty where there is none, and the rest after it.
+fn split_word(line: &[u8]) -> (&[u8], &[u8])
+    ensures word { result.0.now ≡ first_word line.now }
+    ensures rest { result.1.now ≡ after_word line.now }
 {
-    let mut rest = Bytes::new(alloc);
-    rest.push_slice(skip_spaces(fields))?;
-    Ok(rest)
+    match next_word(line) {
+        Some(found) => found,
+        None => (&[], &[]),
+    }
+}
+
+// The first word of a line that must have one, and the rest after it.
+fn take_word(line: &[u8]) -> Result<(&[u8], &[u8]), LineFault>
+    ensures has { MatchResult result (λ _. has_word line.now ≡ true) (λ fault. (has_word line.now ≡ false) × (fault ≡ LineFault.Count)) }
+    ensures word { IfOk result (λ found. found.0.now ≡ first_word line.now) }
+    ensures rest { IfOk result (λ found. found.1.now ≡ after_word line.now) }
+{
+    match next_word(line) {
+        Some(found) => Ok(found),
+        None => Err(LineFault::Count),
+    }
+}
+
+// A line that must have no word.
+fn end_line(line: &[u8]) -> Result<(), LineFault>
+    ensures { MatchResult result (λ _. has_word line.now ≡ false) (λ fault. (has_word line.now ≡ true) × (fault ≡ LineFault.Count)) }
+{
+    match next_word(line) {
+        Some(_) => Err(LineFault::Count),
+        None => Ok(()),
+    }
+}
+
+// The rest of a line after the spaces at its front.
+fn read_rest(alloc: Global, line: &[u8]) -> Result<Bytes, Memory>
+    ensures { IfOk result (λ rest. rest ≡ after_spaces line.now) }
+{
+    let rest = Vec::from_slice(alloc, skip_spaces(line))?;
+    Ok(Bytes::from(rest))
 }

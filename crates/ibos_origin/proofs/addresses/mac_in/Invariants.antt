@@ -1,6 +1,6 @@
 use Rattle.std.proofs.Common.{◌≡◌, ◌<◌, ◌≤◌, ◌-◌, ◌^◌}
 use Rattle.std.specs.Option.{option_copied}
-use Rattle.ibos_origin.specs.Words.{parts_left}
+use Rattle.ibos_text.specs.Parts.{parts_left}
 use Rattle.ibos_origin.specs.Addresses.{mac_in}
 use Rattle.ibos_origin.proofs.Macs.{mac_from}
 use Rattle.ibos_origin.proofs.addresses.mac_in.Given as goal

@@ -1,5 +1,5 @@
 use Rattle.std.proofs.Common.{◌≡◌, ◌+◌, ◌≤◌, length, fold, Ok}
-use Rattle.ibos_origin.specs.Lines.{lines_of}
+use Rattle.ibos_text.specs.Lines.{lines_of}
 use Rattle.ibos_origin.specs.Tables.{nothing_told, with_line}
 use Rattle.ibos_origin.proofs.hosts.Hosts.read.Given as goal
 

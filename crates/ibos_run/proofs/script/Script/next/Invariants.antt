@@ -1,5 +1,5 @@
 use Rattle.std.proofs.Common.{◌≡◌, ◌+◌, ◌<◌, ◌^◌, length}
-use Rattle.ibos_origin.specs.Lines.{lines_of}
+use Rattle.ibos_text.specs.Lines.{lines_of}
 use Rattle.ibos_model.specs.Inputs.{reading_from}
 use Rattle.ibos_run.proofs.script.Script.next.Given as goal
 

@@ -1,0 +1,2 @@
+mod WordCuts
+mod LineCuts

@@ -1,0 +1,10 @@
+//! Cuts texts into lines, and lines into words and parts, without copying them.
+#![tactic(auto)]
+
+mod lines;
+mod parts;
+mod words;
+
+pub use lines::next_line;
+pub use parts::{len_before, split_first};
+pub use words::{next_word, skip_spaces};
