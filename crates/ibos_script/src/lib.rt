@@ -3,10 +3,12 @@
 
 mod fault;
 mod fields;
+mod laws;
 mod lines;
 mod printed;
 
 pub use fault::LineFault;
+pub use laws::lines_name_their_actor;
 pub use lines::{Line, read_line};
 pub use printed::write_outcome;
 

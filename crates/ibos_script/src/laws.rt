@@ -1,0 +1,12 @@
+//! Laws of lines.
+ghost use Rattle.std.specs.Prelude.{◌≡◌, List, ℕ, Ok, Some};
+ghost use Rattle.ibos_kinds.specs.declared.act.Act.{Act};
+ghost use Rattle.ibos_kinds.specs.Parties.{actor};
+ghost use Rattle.ibos_script.specs.declared.lines.Line.TheVariants.{Act as ActLine};
+ghost use Rattle.ibos_script.specs.Lines.{line_in, party_in};
+
+/// A line that says an act begins with the words that name the act's actor.
+pub fn lines_name_their_actor()
+    ensures { (line : List ℕ) (act : Act) → line_in line ≡ Ok (Some (ActLine act)) → party_in line ≡ Some (actor act) }
+{
+}
