@@ -1,4 +1,4 @@
--- The names of a host table, and the origins of allowed URLs, are printable.
+-- The origins of allowed URLs are printable.
 use Rattle.std.proofs.Common.{◌≡◌, ◌≢◌, ℕ, ◌<◌, ◌≤◌, ◌+◌, ◌++◌, List, [], ◌∷◌, Bool, true, false, not, Option, Some, None, Ok, Err, Result, refl, sym, ◌∙◌, ap, subst, arith}
 use Rattle.std.specs.Prelude.{◌^◌, ◌&&◌, ◌||◌, ◌==◌, nat_eq, nat_lt, nat_le, length, if◌then◌else◌, is_some, option_map, unwrap_or, codes, decimal, bytes_eq, find, fold, IfOk}
 use Rattle.std.specs.List.{list_all, All}
@@ -30,132 +30,11 @@ use Rattle.ibos_origin.specs.Tables.{HasPlainNames, Told, nothing_told, with_ent
 use Rattle.ibos_origin.specs.Pages.{Page, origin_text, page_at, address_at, host_of, allowed_url, allowed_parsed, allowed}
 use Rattle.ibos_origin.proofs.Begins.{IsSmall, IsWeb, Suits, by_web, reads_url, port_text, origin_spelled}
 
--- ---- names of a host table
-
-abbrev PlainEntry : Option Entry → Type 0
-PlainEntry None = Unit {0}
-PlainEntry (Some Nothing) = Unit {0}
-PlainEntry (Some (Own addr mac)) = Unit {0}
-PlainEntry (Some (Gateway mac)) = Unit {0}
-PlainEntry (Some (Named name addr)) = list_all is_name_byte name ≡ true
-
-own_plain : (addr mac : Option ℕ) → PlainEntry (own_of addr mac)
-own_plain (Some addr) (Some mac) = tt
-own_plain (Some addr) None = tt
-own_plain None mac = tt
-
-own_in_plain : (words : List (List ℕ)) → PlainEntry (own_in words)
-own_in_plain [] = tt
-own_in_plain (addr ∷ []) = tt
-own_in_plain (addr ∷ mac ∷ []) = own_plain (addr_in addr) (mac_in mac)
-own_in_plain (addr ∷ mac ∷ word ∷ words) = tt
-
-gateway_plain : (mac : Option ℕ) → PlainEntry (option_map Gateway mac)
-gateway_plain (Some mac) = tt
-gateway_plain None = tt
-
-gateway_in_plain : (words : List (List ℕ)) → PlainEntry (gateway_in words)
-gateway_in_plain [] = tt
-gateway_in_plain (mac ∷ []) = gateway_plain (mac_in mac)
-gateway_in_plain (mac ∷ word ∷ words) = tt
-
-named_plain : (name : List ℕ) (addr : Option ℕ) (few some all : Bool) → list_all is_name_byte name ≡ all → PlainEntry (if few && some && all then option_map (Named name) addr else None)
-named_plain name (Some addr) true true true is = is
-named_plain name None true true true is = tt
-named_plain name addr true true false is = tt
-named_plain name addr true false all is = tt
-named_plain name addr false some all is = tt
-
-named_in_plain : (words : List (List ℕ)) → PlainEntry (named_in words)
-named_in_plain [] = tt
-named_in_plain (name ∷ []) = tt
-named_in_plain (name ∷ addr ∷ []) = named_plain name (addr_in addr) (nat_lt 0 (length name)) (nat_le (length name) 253) (list_all is_name_byte name) refl
-named_in_plain (name ∷ addr ∷ word ∷ words) = tt
-
-entry_by_plain : (words : List (List ℕ)) → PlainEntry (entry_by words)
-unfolding entry_by
-entry_by_plain [] = tt
-entry_by_plain (command ∷ words) = by_tests (bytes_eq command (codes "self")) (bytes_eq command (codes "gateway")) (bytes_eq command (codes "host"))
-  where
-    by_tests : (own gateway named : Bool) → PlainEntry (if own then own_in words else if gateway then gateway_in words else if named then named_in words else None)
-    by_tests true gateway named = own_in_plain words
-    by_tests false true named = gateway_in_plain words
-    by_tests false false true = named_in_plain words
-    by_tests false false false = tt
-
-entry_plain : (line : List ℕ) → PlainEntry (entry_in line)
-unfolding entry_in
-entry_plain line = by_test (is_passed_over line)
-  where
-    by_test : (passed : Bool) → PlainEntry (if passed then Some Nothing else entry_by (words_of line))
-    by_test true = tt
-    by_test false = entry_by_plain (words_of line)
-
 abbrev Plain : List Host → Type 0
 Plain hosts = list_all (λ host. list_all is_name_byte host.name) hosts ≡ true
 
-abbrev PlainTold : Told → Type 0
-PlainTold told = Plain told.hosts
-
 both : (p : ℕ → Bool) (xs ys : List ℕ) → list_all p xs ≡ true → list_all p ys ≡ true → list_all p (xs ++ ys) ≡ true
 both p xs ys first second = list_all-append p xs ys ∙ rw (first, second) refl
-
-more_plain : (hosts : List Host) (host : Host) → Plain hosts → list_all is_name_byte host.name ≡ true → Plain (hosts ++ host ∷ [])
-more_plain hosts host plain is = list_all-append (λ (h : Host). list_all is_name_byte h.name) hosts (host ∷ []) ∙ rw (plain, is) refl
-
-with_entry_plain : (told : Told) (entry : Option Entry) → PlainTold told → PlainEntry entry → IfOk (with_entry told entry) PlainTold
-with_entry_plain told None plain is = tt
-with_entry_plain told (Some Nothing) plain is = plain
-with_entry_plain told (Some (Own addr mac)) plain is = by_test (is_some told.own)
-  where
-    by_test : (twice : Bool) → IfOk (if twice then Err Twice else Ok (record told { own = Some (addr, mac) })) PlainTold
-    by_test true = tt
-    by_test false = plain
-with_entry_plain told (Some (Gateway mac)) plain is = by_test (is_some told.gateway)
-  where
-    by_test : (twice : Bool) → IfOk (if twice then Err Twice else Ok (record told { gateway = Some mac })) PlainTold
-    by_test true = tt
-    by_test false = plain
-with_entry_plain told (Some (Named name addr)) plain is = by_tests (is_some (address_of told.hosts name)) (nat_le 4096 (length told.hosts))
-  where
-    by_tests : (twice many : Bool) → IfOk (if twice then Err Twice else if many then Err Many else Ok (record told { hosts = told.hosts ++ record { name = name; addr = addr } ∷ [] })) PlainTold
-    by_tests true many = tt
-    by_tests false true = tt
-    by_tests false false = more_plain told.hosts (record { name = name; addr = addr }) plain is
-
-at_line_plain : (number : ℕ) (r : Result Told HostFault) → IfOk r PlainTold → IfOk (at_line number r) PlainTold
-at_line_plain number (Ok told) plain = plain
-at_line_plain number (Err fault) plain = tt
-
-with_line_plain : (r : Result Told (ℕ × HostFault)) (line : List ℕ) → IfOk r PlainTold → IfOk (with_line r line) PlainTold
-with_line_plain (Err fault) line plain = tt
-with_line_plain (Ok told) line plain = at_line_plain (told.lines + 1) (with_entry (record told { lines = told.lines + 1 }) (entry_in line)) (with_entry_plain (record told { lines = told.lines + 1 }) (entry_in line) plain (entry_plain line))
-
-lines_plain : (r : Result Told (ℕ × HostFault)) (lines : List (List ℕ)) → IfOk r PlainTold → IfOk (fold with_line r lines) PlainTold
-lines_plain r [] plain = plain
-lines_plain r (line ∷ lines) plain = lines_plain (with_line r line) lines (with_line_plain r line plain)
-
-table_with_plain : (lines : ℕ) (own : Option (ℕ × ℕ)) (gateway : Option ℕ) (hosts : List Host) → Plain hosts → IfOk (table_with lines own gateway hosts) HasPlainNames
-table_with_plain lines (Some own) (Some gateway) hosts plain = plain
-table_with_plain lines (Some own) None hosts plain = tt
-table_with_plain lines None gateway hosts plain = tt
-
-table_plain : (r : Result Told (ℕ × HostFault)) → IfOk r PlainTold → IfOk (table_of r) HasPlainNames
-table_plain (Err fault) plain = tt
-table_plain (Ok told) plain = table_with_plain told.lines told.own told.gateway told.hosts plain
-
-pub names_plain : (text : List ℕ) → IfOk (hosts_in text) HasPlainNames
-unfolding hosts_in
-names_plain text = by_test (nat_lt 4194304 (length text))
-  where
-    by_test : (long : Bool) → IfOk (if long then Err (0, TooLong) else table_of (fold with_line (Ok nothing_told) (lines_of text))) HasPlainNames
-    by_test true = tt
-    by_test false = table_plain (fold with_line (Ok nothing_told) (lines_of text)) (lines_plain (Ok nothing_told) (lines_of text) refl)
-
-pub names_are_plain : (text : List ℕ) (H : HostTable) → hosts_in text ≡ Ok H → HasPlainNames H
-names_are_plain text H is = let P : Result HostTable (ℕ × HostFault) → Type 0 = λ r. IfOk r HasPlainNames in subst P is (names_plain text)
-
--- ---- origins
 
 -- the bytes of names and of numbers are printable
 name_pixels : (name : List ℕ) → list_all is_name_byte name ≡ true → list_all is_pixel name ≡ true
@@ -182,7 +61,7 @@ scheme_pixels : (scheme : List ℕ) → is_http scheme ≡ true → list_all is_
 scheme_pixels = by_web (λ scheme. list_all is_pixel scheme ≡ true) refl refl
 
 -- a host of the table
-found_plain : (hosts : List Host) (name : List ℕ) (addr : ℕ) → Plain hosts → address_of hosts name ≡ Some addr → list_all is_name_byte name ≡ true
+pub found_plain : (hosts : List Host) (name : List ℕ) (addr : ℕ) → Plain hosts → address_of hosts name ≡ Some addr → list_all is_name_byte name ≡ true
 found_plain [] name addr plain found = cc
 found_plain (host ∷ hosts) name addr plain found = by_first (list_all is_name_byte host.name) refl (λ rest h. found_plain hosts name addr rest h) plain
   where

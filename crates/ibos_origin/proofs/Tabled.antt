@@ -30,13 +30,14 @@ refused_at (At number fault) told line after rest text short same first refused 
     ∙ ap (fold with_line (Ok told)) (sym first) ∙ same in
     hosts_in-read text (Err (number, fault)) short over
 
-pub table_read : (told : Told) (rest text : List ℕ) (result : Result HostTable HostsFault) → length text ≤ 4194304
+-- no line is left
+pub table_read : (told : Told) (rest text : List ℕ) → length text ≤ 4194304
     → fold with_line (Ok told) (lines_of rest) ≡ fold with_line (Ok nothing_told) (lines_of text)
-    → rest ≡ [] → Reads result (table_of (Ok told)) → Reads result (hosts_in text)
+    → rest ≡ [] → hosts_in text ≡ table_of (Ok told)
 unfolding lines_of pieces_of
-table_read told rest text result short same none reads =
+table_read told rest text short same none =
     let end = ap (λ r. fold with_line (Ok told) (lines_of r)) (sym none) ∙ same in
-    subst (Reads result) (sym (hosts_in-read text (Ok told) short end)) reads
+    hosts_in-read text (Ok told) short end
 
 -- the exit of a `?`
 pub refused_by : (result : Result HostTable HostsFault) (fault : HostsFault) (wanted : Result HostTable (ℕ × HostFault))

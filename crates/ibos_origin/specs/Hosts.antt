@@ -1,5 +1,5 @@
 -- The host table: this machine's addresses, and the hosts with theirs.
-use Rattle.std.specs.Prelude.{ℕ, List, Option, option_map, find, bytes_eq}
+use Rattle.std.specs.Prelude.{ℕ, List, Option, map, option_map, find, bytes_eq}
 use Rattle.ibos_kinds.specs.declared.names.Local.{Local}
 
 pub record Host : Type 0 where
@@ -17,3 +17,6 @@ address_of hosts name = option_map (λ host. host.addr) (find (λ host. bytes_eq
 
 abbrev pub host_of : List ℕ → ℕ → Host
 host_of name addr = record { name = name; addr = addr }
+
+abbrev pub names_of : List Host → List (List ℕ)
+names_of hosts = map (λ host. host.name) hosts

@@ -1,15 +1,26 @@
 -- The host table that a text writes, or its first fault and the line of that.
-use Rattle.std.specs.Prelude.{◌≡◌, ℕ, ◌+◌, true, List, [], ◌∷◌, ◌++◌, nat_lt, nat_le, length, fold, Option, Some, None, is_some, Result, Ok, Err, if◌then◌else◌}
+use Rattle.std.specs.Prelude.{◌≡◌, ℕ, ◌+◌, ◌^◌, ◌<◌, true, bytes_eq, List, [], ◌∷◌, ◌++◌, nat_lt, nat_le, length, fold, Option, Some, None, is_some, Result, Ok, Err, if◌then◌else◌}
 use Rattle.ibos_origin.specs.declared.fault.HostFault.{HostFault}
 use Rattle.ibos_origin.specs.declared.fault.HostFault.TheVariants.{Form, Twice, Many, NoSelf, TooLong}
 use Rattle.ibos_text.specs.Lines.{lines_of}
-use Rattle.std.specs.List.{list_all}
-use Rattle.ibos_origin.specs.Entries.{Entry, is_name_byte, Nothing, Own, Gateway, Named, entry_in}
-use Rattle.ibos_origin.specs.Hosts.{Host, HostTable, address_of, host_of}
+use Rattle.std.specs.List.{list_all, IsDistinct}
+use Rattle.ibos_origin.specs.Entries.{Entry, is_name_byte, is_name, Nothing, Own, Gateway, Named, entry_in}
+use Rattle.ibos_origin.specs.Hosts.{Host, HostTable, address_of, host_of, names_of}
 
 -- each host's name has the bytes of a name
 abbrev pub HasPlainNames : HostTable → Type 0
 HasPlainNames H = list_all (λ host. list_all is_name_byte host.name) H.hosts ≡ true
+
+-- What holds of each host table that was read.
+pub record IsSound (H : HostTable) : Type 0 where
+  -- a MAC address has 48 bits
+  pub mac : H.local.mac < 2 ^ 48
+  pub gateway : H.local.gateway < 2 ^ 48
+  -- each name is one: its length too
+  pub names : list_all (λ host. is_name host.name) H.hosts ≡ true
+  pub plain : HasPlainNames H
+  -- no two hosts have one name
+  pub distinct : IsDistinct bytes_eq (names_of H.hosts)
 
 -- what lines have said
 pub record Told : Type 0 where

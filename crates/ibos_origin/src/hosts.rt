@@ -1,5 +1,5 @@
 // The host table.
-ghost use Rattle.std.specs.Prelude.{◌≡◌, ◌-◌, ◌^◌, ◌<◌, Ok, OnOk, IfErr, Some, None};
+ghost use Rattle.std.specs.Prelude.{◌≡◌, ◌-◌, ◌^◌, ◌<◌, Ok, OnOk, IfOk, IfErr, Some, None};
 ghost use Rattle.ibos_origin.specs.Hosts.{address_of};
 
 use crate::entry::{Entry, read_entry};
@@ -27,10 +27,14 @@ impl Model for Hosts {
     ghost Value = { HostTable };
 
     ghost view = { λ h. record { local = h.local; hosts = h.hosts } };
+
+    ghost use Rattle.ibos_origin.specs.Tables.{IsSound};
+
+    ghost invariant = { λ h. IsSound (record { local = h.local; hosts = h.hosts }) };
 }
 
 impl Hosts {
-    ghost use Rattle.ibos_origin.specs.Tables.{hosts_in};
+    ghost use Rattle.ibos_origin.specs.Tables.{hosts_in, IsSound};
     ghost use Rattle.ibos_origin.specs.Reads.{Reads};
 
     /// Reads a host table, or tells its first fault.
@@ -54,7 +58,15 @@ impl Hosts {
             told.read_line(alloc, line)?;
             rest = after;
         }
-        told.finish()
+        let (local, hosts) = told.finish()?;
+        Ok(Hosts { local, hosts })
+    }
+
+    /// Tells a caller what holds of each host table.
+    pub fn sound(&self)
+        ensures { IsSound self.now }
+    {
+        let _ = &self.local;
     }
 
     /// This machine's own addresses and the gateway's MAC address.
@@ -165,9 +177,10 @@ impl Told {
         Ok(())
     }
 
-    fn finish(self) -> Result<Hosts, HostsFault>
+    fn finish(self) -> Result<(Local, HostIndex), HostsFault>
         requires { self.lines < 2 ^ 32 - 1 }
-        ensures { Reads result (table_of (Ok self)) }
+        ensures ok { IfOk result (λ table. table_of (Ok self) ≡ Ok (record { local = table.0; hosts = table.1 })) }
+        ensures err { IfErr result (λ fault. Refuses fault (table_of (Ok self))) }
     {
         let Told {
             lines,
@@ -176,10 +189,7 @@ impl Told {
             hosts,
         } = self;
         match (own, gateway) {
-            (Some((addr, mac)), Some(gateway)) => Ok(Hosts {
-                local: Local { addr, mac, gateway },
-                hosts,
-            }),
+            (Some((addr, mac)), Some(gateway)) => Ok((Local { addr, mac, gateway }, hosts)),
             _ => Err(HostsFault::At {
                 line: lines + 1,
                 fault: HostFault::NoSelf,

@@ -1,5 +1,5 @@
-use Rattle.ibos_origin.proofs.Plain.{names_are_plain}
+use Rattle.ibos_origin.proofs.Sound.{tables_are_sound}
 use Rattle.ibos_origin.proofs.laws.hosts_have_plain_names.Goals as goal
 
 pub returns : goal.returns
-returns c = names_are_plain
+returns c = λ text H is. (tables_are_sound text H is).plain

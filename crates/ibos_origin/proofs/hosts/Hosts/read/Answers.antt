@@ -1,4 +1,6 @@
-use Rattle.std.proofs.Common.{arith}
+use Rattle.std.proofs.Common.{◌∙◌, arith, subst, sym}
+use Rattle.ibos_origin.specs.Reads.{Refuses}
+use Rattle.ibos_origin.proofs.Sound.{tables_are_sound}
 use Rattle.ibos_origin.proofs.Tabled.{refused_at, refused_by, table_read}
 use Rattle.ibos_origin.proofs.hosts.Hosts.read.Goals as goal
 
@@ -8,7 +10,15 @@ returns-in_err-read_line c =
     (refused_at c.in_err-read_line.field-0.0 c.lines.told c.in-Some.line.now c.in-Some.after.now c.lines.rest.now c.args.bytes.now
     (omega (arith, c.if-bytes-gt-LONGEST.false)) c.lines.invariant.same c.in-Some.ensures.first c.in_err-read_line.ensures.err)
 
+pub returns-in_err-local : goal.returns-in_err-local
+returns-in_err-local c =
+    let whole = table_read c.lines.told c.lines.rest.now c.args.bytes.now (omega (arith, c.if-bytes-gt-LONGEST.false)) c.lines.invariant.same c.in_default.ensures.first in
+    refused_by _ _ _ c.from_residual-in_err-local.ensures.1 (subst (Refuses c.in_err-local.field-0.0) (sym whole) c.in_err-local.ensures.err)
+
+pub invariant_of-result : goal.invariant_of-result
+invariant_of-result c =
+    let whole = table_read c.lines.told c.lines.rest.now c.args.bytes.now (omega (arith, c.if-bytes-gt-LONGEST.false)) c.lines.invariant.same c.in_default.ensures.first in
+    tables_are_sound c.args.bytes.now _ (whole ∙ c.in_ok-local.ensures.ok)
+
 pub returns : goal.returns
-returns c =
-    table_read c.lines.told c.lines.rest.now c.args.bytes.now c.finish.result (omega (arith, c.if-bytes-gt-LONGEST.false))
-    c.lines.invariant.same c.in_default.ensures.first c.finish.ensures
+returns c = table_read c.lines.told c.lines.rest.now c.args.bytes.now (omega (arith, c.if-bytes-gt-LONGEST.false)) c.lines.invariant.same c.in_default.ensures.first ∙ c.in_ok-local.ensures.ok

@@ -1,0 +1,5 @@
+use Rattle.ibos_origin.proofs.Sound as sound
+use Rattle.ibos_origin.proofs.laws.tables_are_sound.Goals as goal
+
+pub returns : goal.returns
+returns c = sound.tables_are_sound
