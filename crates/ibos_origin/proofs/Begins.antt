@@ -1,5 +1,5 @@
 -- The serialization of an allowed URL begins with its origin.
-use Rattle.std.proofs.Common.{◌≡◌, ℕ, ◌<◌, ◌++◌, List, [], ◌∷◌, Bool, true, false, not, take, drop, Option, Some, None, Ok, Err, Result, refl, sym, ◌∙◌, ap, subst, append_assoc, inl, inr, arith}
+use Rattle.std.proofs.Common.{◌≡◌, ℕ, ◌<◌, ◌≤◌, ◌++◌, List, [], ◌∷◌, Bool, true, false, not, take, drop, Option, Some, None, Ok, Err, Result, refl, sym, ◌∙◌, ap, subst, append_assoc, inl, inr, arith}
 use Rattle.std.specs.Prelude.{◌^◌, ◌&&◌, ◌||◌, ◌==◌, nat_eq, nat_lt, length, if◌then◌else◌, is_some, unwrap_or, codes, decimal, bytes_eq, IfOk}
 use Rattle.std.specs.List.{concat, list_all}
 use Rattle.std.specs.Char.{is_ascii_digit}
@@ -246,7 +246,7 @@ url_begins url web none is =
 -- ---- allowed URLs
 
 -- the URL begins with the origin, which has at most 72 bytes
-abbrev pub Begins : Page → Type 0
+abbrev Begins : Page → Type 0
 Begins page = ((rest : List ℕ) × (page.url ≡ page.origin ++ rest)) × (nat_lt 72 (length page.origin) ≡ false)
 
 page_begins : (url : Parts) (addr : Option ℕ) → serialize url ≡ origin_text url ++ tail_of url → nat_lt 72 (length (origin_text url)) ≡ false → IfOk (page_at url addr) Begins
@@ -270,7 +270,7 @@ allowed_parsed_begins : (H : HostTable) (r : Parsed Parts) → IfOk r Suits → 
 allowed_parsed_begins H (Err error) suits = tt
 allowed_parsed_begins H (Ok url) suits = allowed_url_begins H url suits
 
-pub allowed_begins : (H : HostTable) (text : List ℕ) → IfOk (allowed H text) Begins
+allowed_begins : (H : HostTable) (text : List ℕ) → IfOk (allowed H text) Begins
 unfolding allowed
 allowed_begins H text = by_test (is_utf8 text)
   where
@@ -283,3 +283,9 @@ pub begins_with_origin : (H : HostTable) (text : List ℕ) (page : Page) → all
 begins_with_origin H text page is =
     let begins : Begins page = subst (λ (r : Result Page Rule). IfOk r Begins) is (allowed_begins H text) in
     begins.0
+
+-- and the origin has at most 72 bytes
+pub origin_is_short : (H : HostTable) (text : List ℕ) (page : Page) → allowed H text ≡ Ok page → length page.origin ≤ 72
+origin_is_short H text page is =
+    let begins : Begins page = subst (λ (r : Result Page Rule). IfOk r Begins) is (allowed_begins H text) in
+    grind (arith, nat_tests, begins.1)

@@ -3,6 +3,6 @@ mod Macs
 mod Dotted
 mod Sound
 mod Tabled
-pub mod Begins
-pub mod Plain
+mod Begins
+mod Plain
 mod Endpoints

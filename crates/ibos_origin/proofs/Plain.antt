@@ -112,7 +112,7 @@ allowed_parsed_plain : (H : HostTable) (r : Parsed Parts) → HasPlainNames H �
 allowed_parsed_plain H (Err error) plain suits = tt
 allowed_parsed_plain H (Ok url) plain suits = allowed_url_plain H url plain suits
 
-pub allowed_plain : (H : HostTable) (text : List ℕ) → HasPlainNames H → IfOk (allowed H text) (λ page. list_all is_pixel page.origin ≡ true)
+allowed_plain : (H : HostTable) (text : List ℕ) → HasPlainNames H → IfOk (allowed H text) (λ page. list_all is_pixel page.origin ≡ true)
 unfolding allowed
 allowed_plain H text plain = by_test (is_utf8 text)
   where

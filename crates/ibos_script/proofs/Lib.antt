@@ -1,3 +1,3 @@
-pub mod Cuts
-pub mod Pieces
+mod Cuts
+mod Pieces
 mod Actors

@@ -2,4 +2,4 @@ use Rattle.ibos_origin.proofs.Endpoints.{endpoint_follows, one_endpoint}
 use Rattle.ibos_origin.proofs.laws.endpoints_follow_origins.Goals as goal
 
 pub returns : goal.returns
-returns c = record { endpoint = endpoint_follows; one = one_endpoint }
+returns c = record { endpoint = endpoint_follows; same = one_endpoint }
