@@ -8,6 +8,7 @@ use Rattle.std.specs.Option.{option_eq, option_or}
 use Rattle.std.specs.Str.{is_utf8}
 use Rattle.std.proofs.lemmas.Bool.{cases_Bool, cond_both, cond-true, cond-false, or_parts}
 use Rattle.std.proofs.lemmas.Bool.Decides.{nat_tests}
+use Rattle.std.proofs.lemmas.List.{append-nil}
 use Rattle.std.proofs.lemmas.Slice.Eq.{bytes_eq-Decides}
 use Rattle.url.specs.declared.error.ParseError.TheVariants.{EmptyHost}
 use Rattle.url.specs.declared.host.Host.{Host}
@@ -16,7 +17,8 @@ use Rattle.url.specs.declared.scheme.SchemeType.TheVariants.{File, SpecialNotFil
 use Rattle.url.specs.Input.{is_empty, lowercase, split_once, rsplit_once}
 use Rattle.url.specs.Scheme.{default_port, scheme_type, is_special, is_file}
 use Rattle.url.specs.Host.{host_text, parse_host, parse_file_host}
-use Rattle.url.specs.Parts.{Parts, kind_of, has_credentials, host_or_empty, pieces, serialize}
+use Rattle.url.specs.Parts.{Parts, kind_of, has_credentials, host_or_empty, pieces, serialize, text_between}
+use Rattle.url.specs.declared.slicing.Position.TheVariants.{BeforeScheme, AfterPort}
 use Rattle.url.specs.Path.{segment_len, is_windows_drive_letter, parse_path, parse_path_start, escape_end}
 use Rattle.url.specs.Head.{scheme_only, with_authority}
 use Rattle.url.specs.Parser.{Parsed, and_then, split_port, lacks_host, leading_slashes, without_default_port, parse_port, parse_authority, with_path, after_double_slash, parse_non_special, file_with_host, after_file_double_slash, parse_file, parse_not_file, parse_body, with_tail, end_path, before_tail, parse_parts, parse_by_scheme, parse_url}
@@ -192,6 +194,14 @@ spelled url None port is_host is_port some username password = cc
 spelled url (Some host) None is_host is_port some username password = rw (is_host, is_port, username, password) refl
 spelled url (Some host) (Some n) is_host is_port some username password = rw (is_host, is_port, username, password) refl
 
+-- the front up to the port
+fronted : (url : Parts) (host : Option (Host (List ℕ))) (port : Option ℕ) → url.host ≡ host → url.port ≡ port → is_some host ≡ true → url.username ≡ [] → url.password ≡ []
+    → text_between url BeforeScheme AfterPort ≡ url.scheme ++ (codes "://" ++ (host_text (host_or_empty url) ++ port_text port))
+fronted url None port is_host is_port some username password = cc
+fronted url (Some host) None is_host is_port some username password = rw (is_host, is_port, username, password) refl
+fronted url (Some host) (Some n) is_host is_port some username password =
+    rw (is_host, is_port, username, password) (ap (λ t. url.scheme ++ (codes "://" ++ (host_text host ++ (codes ":" ++ t)))) (append-nil (decimal n)))
+
 -- the origin of an `http` or `https` URL
 web_default : (scheme : List ℕ) → is_http scheme ≡ true → is_some (default_port scheme) ≡ true
 unfolding default_port
@@ -235,6 +245,13 @@ no_credentials url none = (empty_from _ (or_parts _ _ none).0, empty_from _ (or_
 
 regrouped : (a b c d rest : List ℕ) → a ++ (b ++ (c ++ (d ++ rest))) ≡ (a ++ (b ++ (c ++ d))) ++ rest
 regrouped a b c d rest = simp append_assoc
+
+-- the origin is the front of a URL that was parsed
+pub origin_fronts : (text : List ℕ) (url : Parts) → parse_url None text ≡ Ok url → is_http url.scheme ≡ true → has_credentials url ≡ false → text_between url BeforeScheme AfterPort ≡ origin_text url
+origin_fronts text url parsed web none =
+    let suits : Suits url = subst (λ (r : Parsed Parts). IfOk r Suits) parsed (reads_url text).holds in
+    let bare = no_credentials url none in
+    fronted url url.host url.port refl refl (suits web).host bare.0 bare.1 ∙ sym (origin_spelled url url.port refl web (suits web).port)
 
 url_begins : (url : Parts) → is_http url.scheme ≡ true → has_credentials url ≡ false → IsWeb url → serialize url ≡ origin_text url ++ tail_of url
 url_begins url web none is =

@@ -20,7 +20,7 @@ use Rattle.ibos_kinds.specs.declared.rule.Rule.{Rule}
 use Rattle.ibos_kinds.specs.declared.rule.Rule.TheVariants.{U4, U5, U6, U7, U8, U9}
 use Rattle.ibos_text.specs.Parts.{len_before}
 use Rattle.ibos_origin.specs.Hosts.{HostTable, address_of}
-use Rattle.ibos_origin.specs.Entries.{is_name_byte}
+use Rattle.ibos_origin.specs.HostLines.{is_name_byte}
 use Rattle.ibos_origin.specs.Tables.{HasPlainNames}
 use Rattle.ibos_origin.specs.Pages.{Page, endpoint_of, origin_text, port_of, page_at, address_at, host_of, allowed_url, allowed_parsed, allowed}
 use Rattle.ibos_origin.specs.Endpoints.{port_behind, endpoint_behind, origin_endpoint}

@@ -25,8 +25,8 @@ use Rattle.ibos_origin.specs.Hosts.{Host, HostTable, address_of}
 use Rattle.ibos_origin.specs.Addresses.{addr_in, mac_in}
 use Rattle.ibos_text.specs.Words.{words_of}
 use Rattle.ibos_text.specs.Lines.{lines_of}
-use Rattle.ibos_origin.specs.Entries.{Entry, Nothing, Own, Gateway, Named, is_name_byte, is_name, is_passed_over, own_of, own_in, gateway_in, named_in, entry_by, entry_in}
-use Rattle.ibos_origin.specs.Tables.{HasPlainNames, Told, nothing_told, with_entry, at_line, with_line, table_with, table_of, hosts_in}
+use Rattle.ibos_origin.specs.HostLines.{HostLine, Nothing, Own, Gateway, Named, is_name_byte, is_name, is_passed_over, own_of, own_in, gateway_in, named_in, host_line_by, host_line_in}
+use Rattle.ibos_origin.specs.Tables.{HasPlainNames, PartialTable, nothing_read, with_host_line, at_line, with_line, table_with, table_of, hosts_in}
 use Rattle.ibos_origin.specs.Pages.{Page, origin_text, page_at, address_at, host_of, allowed_url, allowed_parsed, allowed}
 use Rattle.ibos_origin.proofs.Begins.{IsSmall, IsWeb, Suits, by_web, reads_url, port_text, origin_spelled}
 

@@ -15,8 +15,8 @@ use Rattle.ibos_origin.specs.declared.fault.HostFault.{HostFault}
 use Rattle.ibos_origin.specs.declared.fault.HostFault.TheVariants.{Form, Twice, Many, NoSelf, TooLong}
 use Rattle.ibos_origin.specs.Hosts.{Host, HostTable, address_of, host_of, names_of}
 use Rattle.ibos_origin.specs.Addresses.{addr_in, mac_in, is_pair}
-use Rattle.ibos_origin.specs.Entries.{Entry, Nothing, Own, Gateway, Named, is_name_byte, is_name, is_passed_over, own_of, own_in, gateway_in, named_in, entry_by, entry_in}
-use Rattle.ibos_origin.specs.Tables.{HasPlainNames, IsSound, Told, nothing_told, with_entry, at_line, with_line, table_with, table_of, hosts_in}
+use Rattle.ibos_origin.specs.HostLines.{HostLine, Nothing, Own, Gateway, Named, is_name_byte, is_name, is_passed_over, own_of, own_in, gateway_in, named_in, host_line_by, host_line_in}
+use Rattle.ibos_origin.specs.Tables.{HasPlainNames, IsSound, PartialTable, nothing_read, with_host_line, at_line, with_line, table_with, table_of, hosts_in}
 
 -- ---- MAC addresses
 
@@ -63,62 +63,62 @@ mac_small word = by_tests (length (parts_of 58 word) == 6) refl (list_all is_pai
 
 -- ---- lines
 
-abbrev SoundEntry : Option Entry → Type 0
-SoundEntry None = Unit {0}
-SoundEntry (Some Nothing) = Unit {0}
-SoundEntry (Some (Own addr mac)) = mac < 2 ^ 48
-SoundEntry (Some (Gateway mac)) = mac < 2 ^ 48
-SoundEntry (Some (Named name addr)) = is_name name ≡ true
+abbrev SoundLine : Option HostLine → Type 0
+SoundLine None = Unit {0}
+SoundLine (Some Nothing) = Unit {0}
+SoundLine (Some (Own addr mac)) = mac < 2 ^ 48
+SoundLine (Some (Gateway mac)) = mac < 2 ^ 48
+SoundLine (Some (Named name addr)) = is_name name ≡ true
 
-own_sound : (addr mac : Option ℕ) → IfSome mac (λ m. m < 2 ^ 48) → SoundEntry (own_of addr mac)
+own_sound : (addr mac : Option ℕ) → IfSome mac (λ m. m < 2 ^ 48) → SoundLine (own_of addr mac)
 own_sound (Some addr) (Some mac) small = small
 own_sound (Some addr) None small = tt
 own_sound None mac small = tt
 
-own_in_sound : (words : List (List ℕ)) → SoundEntry (own_in words)
+own_in_sound : (words : List (List ℕ)) → SoundLine (own_in words)
 own_in_sound [] = tt
 own_in_sound (addr ∷ []) = tt
 own_in_sound (addr ∷ mac ∷ []) = own_sound (addr_in addr) (mac_in mac) (mac_small mac)
 own_in_sound (addr ∷ mac ∷ word ∷ words) = tt
 
-gateway_sound : (mac : Option ℕ) → IfSome mac (λ m. m < 2 ^ 48) → SoundEntry (option_map Gateway mac)
+gateway_sound : (mac : Option ℕ) → IfSome mac (λ m. m < 2 ^ 48) → SoundLine (option_map Gateway mac)
 gateway_sound (Some mac) small = small
 gateway_sound None small = tt
 
-gateway_in_sound : (words : List (List ℕ)) → SoundEntry (gateway_in words)
+gateway_in_sound : (words : List (List ℕ)) → SoundLine (gateway_in words)
 gateway_in_sound [] = tt
 gateway_in_sound (mac ∷ []) = gateway_sound (mac_in mac) (mac_small mac)
 gateway_in_sound (mac ∷ word ∷ words) = tt
 
-named_sound : (name : List ℕ) (addr : Option ℕ) (is : Bool) → is_name name ≡ is → SoundEntry (if is then option_map (Named name) addr else None)
+named_sound : (name : List ℕ) (addr : Option ℕ) (is : Bool) → is_name name ≡ is → SoundLine (if is then option_map (Named name) addr else None)
 named_sound name (Some addr) true is = is
 named_sound name None true is = tt
 named_sound name addr false is = tt
 
-named_in_sound : (words : List (List ℕ)) → SoundEntry (named_in words)
+named_in_sound : (words : List (List ℕ)) → SoundLine (named_in words)
 named_in_sound [] = tt
 named_in_sound (name ∷ []) = tt
 named_in_sound (name ∷ addr ∷ []) = named_sound name (addr_in addr) (is_name name) refl
 named_in_sound (name ∷ addr ∷ word ∷ words) = tt
 
-entry_by_sound : (words : List (List ℕ)) → SoundEntry (entry_by words)
-unfolding entry_by
-entry_by_sound [] = tt
-entry_by_sound (command ∷ words) = by_tests (bytes_eq command (codes "self")) (bytes_eq command (codes "gateway")) (bytes_eq command (codes "host"))
+host_line_by_sound : (words : List (List ℕ)) → SoundLine (host_line_by words)
+unfolding host_line_by
+host_line_by_sound [] = tt
+host_line_by_sound (command ∷ words) = by_tests (bytes_eq command (codes "self")) (bytes_eq command (codes "gateway")) (bytes_eq command (codes "host"))
   where
-    by_tests : (own gateway named : Bool) → SoundEntry (if own then own_in words else if gateway then gateway_in words else if named then named_in words else None)
+    by_tests : (own gateway named : Bool) → SoundLine (if own then own_in words else if gateway then gateway_in words else if named then named_in words else None)
     by_tests true gateway named = own_in_sound words
     by_tests false true named = gateway_in_sound words
     by_tests false false true = named_in_sound words
     by_tests false false false = tt
 
-entry_sound : (line : List ℕ) → SoundEntry (entry_in line)
-unfolding entry_in
-entry_sound line = by_test (is_passed_over line)
+host_line_sound : (line : List ℕ) → SoundLine (host_line_in line)
+unfolding host_line_in
+host_line_sound line = by_test (is_passed_over line)
   where
-    by_test : (passed : Bool) → SoundEntry (if passed then Some Nothing else entry_by (words_of line))
+    by_test : (passed : Bool) → SoundLine (if passed then Some Nothing else host_line_by (words_of line))
     by_test true = tt
-    by_test false = entry_by_sound (words_of line)
+    by_test false = host_line_by_sound (words_of line)
 
 -- ---- hosts
 
@@ -156,46 +156,46 @@ none_sound = record { names = refl; distinct = tt }
 
 -- ---- tables
 
-record SoundTold (told : Told) : Type 0 where
-  pub own : IfSome told.own (λ own. own.1 < 2 ^ 48)
-  pub gateway : IfSome told.gateway (λ mac. mac < 2 ^ 48)
-  pub hosts : AreSound told.hosts
+record SoundPartial (table : PartialTable) : Type 0 where
+  pub own : IfSome table.own (λ own. own.1 < 2 ^ 48)
+  pub gateway : IfSome table.gateway (λ mac. mac < 2 ^ 48)
+  pub hosts : AreSound table.hosts
 
-with_entry_sound : (told : Told) (entry : Option Entry) → SoundTold told → SoundEntry entry → IfOk (with_entry told entry) SoundTold
-with_entry_sound told None sound is = tt
-with_entry_sound told (Some Nothing) sound is = sound
-with_entry_sound told (Some (Own addr mac)) sound is = by_test (is_some told.own)
+with_host_line_sound : (table : PartialTable) (entry : Option HostLine) → SoundPartial table → SoundLine entry → IfOk (with_host_line table entry) SoundPartial
+with_host_line_sound table None sound is = tt
+with_host_line_sound table (Some Nothing) sound is = sound
+with_host_line_sound table (Some (Own addr mac)) sound is = by_test (is_some table.own)
   where
-    by_test : (twice : Bool) → IfOk (if twice then Err Twice else Ok (record told { own = Some (addr, mac) })) SoundTold
+    by_test : (twice : Bool) → IfOk (if twice then Err Twice else Ok (record table { own = Some (addr, mac) })) SoundPartial
     by_test true = tt
     by_test false = record { own = is; gateway = sound.gateway; hosts = sound.hosts }
-with_entry_sound told (Some (Gateway mac)) sound is = by_test (is_some told.gateway)
+with_host_line_sound table (Some (Gateway mac)) sound is = by_test (is_some table.gateway)
   where
-    by_test : (twice : Bool) → IfOk (if twice then Err Twice else Ok (record told { gateway = Some mac })) SoundTold
+    by_test : (twice : Bool) → IfOk (if twice then Err Twice else Ok (record table { gateway = Some mac })) SoundPartial
     by_test true = tt
     by_test false = record { own = sound.own; gateway = is; hosts = sound.hosts }
-with_entry_sound told (Some (Named name addr)) sound is = by_tests (is_some (address_of told.hosts name)) refl (nat_le 4096 (length told.hosts))
+with_host_line_sound table (Some (Named name addr)) sound is = by_tests (is_some (address_of table.hosts name)) refl (nat_le 4096 (length table.hosts))
   where
-    by_tests : (twice : Bool) → is_some (address_of told.hosts name) ≡ twice → (many : Bool)
-        → IfOk (if twice then Err Twice else if many then Err Many else Ok (record told { hosts = told.hosts ++ host_of name addr ∷ [] })) SoundTold
+    by_tests : (twice : Bool) → is_some (address_of table.hosts name) ≡ twice → (many : Bool)
+        → IfOk (if twice then Err Twice else if many then Err Many else Ok (record table { hosts = table.hosts ++ host_of name addr ∷ [] })) SoundPartial
     by_tests true absent many = tt
     by_tests false absent true = tt
-    by_tests false absent false = record { own = sound.own; gateway = sound.gateway; hosts = push_sound told.hosts (host_of name addr) sound.hosts is absent }
+    by_tests false absent false = record { own = sound.own; gateway = sound.gateway; hosts = push_sound table.hosts (host_of name addr) sound.hosts is absent }
 
-at_line_sound : (number : ℕ) (r : Result Told HostFault) → IfOk r SoundTold → IfOk (at_line number r) SoundTold
-at_line_sound number (Ok told) sound = sound
+at_line_sound : (number : ℕ) (r : Result PartialTable HostFault) → IfOk r SoundPartial → IfOk (at_line number r) SoundPartial
+at_line_sound number (Ok table) sound = sound
 at_line_sound number (Err fault) sound = tt
 
-counted : (told : Told) → SoundTold told → SoundTold (record told { lines = told.lines + 1 })
-counted told sound = record { own = sound.own; gateway = sound.gateway; hosts = sound.hosts }
+counted : (table : PartialTable) → SoundPartial table → SoundPartial (record table { lines = table.lines + 1 })
+counted table sound = record { own = sound.own; gateway = sound.gateway; hosts = sound.hosts }
 
-with_line_sound : (r : Result Told (ℕ × HostFault)) (line : List ℕ) → IfOk r SoundTold → IfOk (with_line r line) SoundTold
+with_line_sound : (r : Result PartialTable (ℕ × HostFault)) (line : List ℕ) → IfOk r SoundPartial → IfOk (with_line r line) SoundPartial
 with_line_sound (Err fault) line sound = tt
-with_line_sound (Ok told) line sound =
-    let next : Told = record told { lines = told.lines + 1 } in
-    at_line_sound (told.lines + 1) (with_entry next (entry_in line)) (with_entry_sound next (entry_in line) (counted told sound) (entry_sound line))
+with_line_sound (Ok table) line sound =
+    let next : PartialTable = record table { lines = table.lines + 1 } in
+    at_line_sound (table.lines + 1) (with_host_line next (host_line_in line)) (with_host_line_sound next (host_line_in line) (counted table sound) (host_line_sound line))
 
-lines_sound : (r : Result Told (ℕ × HostFault)) (lines : List (List ℕ)) → IfOk r SoundTold → IfOk (fold with_line r lines) SoundTold
+lines_sound : (r : Result PartialTable (ℕ × HostFault)) (lines : List (List ℕ)) → IfOk r SoundPartial → IfOk (fold with_line r lines) SoundPartial
 lines_sound r [] sound = sound
 lines_sound r (line ∷ lines) sound = lines_sound (with_line r line) lines (with_line_sound r line sound)
 
@@ -225,20 +225,20 @@ table_with_sound lines (Some own) (Some gateway) hosts small near are =
 table_with_sound lines (Some own) None hosts small near are = tt
 table_with_sound lines None gateway hosts small near are = tt
 
-table_sound : (r : Result Told (ℕ × HostFault)) → IfOk r SoundTold → IfOk (table_of r) IsSound
+table_sound : (r : Result PartialTable (ℕ × HostFault)) → IfOk r SoundPartial → IfOk (table_of r) IsSound
 table_sound (Err fault) sound = tt
-table_sound (Ok told) sound = table_with_sound told.lines told.own told.gateway told.hosts sound.own sound.gateway sound.hosts
+table_sound (Ok table) sound = table_with_sound table.lines table.own table.gateway table.hosts sound.own sound.gateway sound.hosts
 
-first_sound : SoundTold nothing_told
+first_sound : SoundPartial nothing_read
 first_sound = record { own = tt; gateway = tt; hosts = none_sound }
 
 hosts_in_sound : (text : List ℕ) → IfOk (hosts_in text) IsSound
 unfolding hosts_in
 hosts_in_sound text = by_test (nat_lt 4194304 (length text))
   where
-    by_test : (long : Bool) → IfOk (if long then Err (0, TooLong) else table_of (fold with_line (Ok nothing_told) (lines_of text))) IsSound
+    by_test : (long : Bool) → IfOk (if long then Err (0, TooLong) else table_of (fold with_line (Ok nothing_read) (lines_of text))) IsSound
     by_test true = tt
-    by_test false = table_sound (fold with_line (Ok nothing_told) (lines_of text)) (lines_sound (Ok nothing_told) (lines_of text) first_sound)
+    by_test false = table_sound (fold with_line (Ok nothing_read) (lines_of text)) (lines_sound (Ok nothing_read) (lines_of text) first_sound)
 
 -- what was read is sound
 pub tables_are_sound : (text : List ℕ) (H : HostTable) → hosts_in text ≡ Ok H → IsSound H

@@ -7,7 +7,7 @@ use Rattle.ibos_origin.specs.declared.fault.HostsFault.{HostsFault}
 use Rattle.ibos_origin.specs.declared.fault.HostsFault.TheVariants.{At, Memory}
 use Rattle.ibos_text.specs.Lines.{lines_of, pieces_of}
 use Rattle.ibos_origin.specs.Hosts.{HostTable}
-use Rattle.ibos_origin.specs.Tables.{Told, nothing_told, with_line, table_of, hosts_in}
+use Rattle.ibos_origin.specs.Tables.{PartialTable, nothing_read, with_line, table_of, hosts_in}
 use Rattle.ibos_origin.specs.Reads.{Refuses, Reads}
 
 -- a refused line refuses the table
@@ -15,29 +15,29 @@ fold-refused : (fault : ℕ × HostFault) (lines : List (List ℕ)) → fold wit
 fold-refused fault [] = refl
 fold-refused fault (line ∷ lines) = fold-refused fault lines
 
-hosts_in-read : (text : List ℕ) (read : Result Told (ℕ × HostFault)) → length text ≤ 4194304
-    → read ≡ fold with_line (Ok nothing_told) (lines_of text) → hosts_in text ≡ table_of read
+hosts_in-read : (text : List ℕ) (read : Result PartialTable (ℕ × HostFault)) → length text ≤ 4194304
+    → read ≡ fold with_line (Ok nothing_read) (lines_of text) → hosts_in text ≡ table_of read
 unfolding hosts_in
 hosts_in-read text read short is = rw (← is) (grind (arith, nat_tests))
 
-pub refused_at : (fault : HostsFault) (told : Told) (line after rest text : List ℕ) → length text ≤ 4194304
-    → fold with_line (Ok told) (lines_of rest) ≡ fold with_line (Ok nothing_told) (lines_of text)
-    → lines_of rest ≡ line ∷ lines_of after → Refuses fault (with_line (Ok told) line) → Refuses fault (hosts_in text)
-refused_at Memory told line after rest text short same first refused = tt
-refused_at (At number fault) told line after rest text short same first refused =
-    let over : Err (number, fault) ≡ fold with_line (Ok nothing_told) (lines_of text) =
+pub refused_at : (fault : HostsFault) (table : PartialTable) (line after rest text : List ℕ) → length text ≤ 4194304
+    → fold with_line (Ok table) (lines_of rest) ≡ fold with_line (Ok nothing_read) (lines_of text)
+    → lines_of rest ≡ line ∷ lines_of after → Refuses fault (with_line (Ok table) line) → Refuses fault (hosts_in text)
+refused_at Memory table line after rest text short same first refused = tt
+refused_at (At number fault) table line after rest text short same first refused =
+    let over : Err (number, fault) ≡ fold with_line (Ok nothing_read) (lines_of text) =
     sym (fold-refused (number, fault) (lines_of after)) ∙ ap (λ read. fold with_line read (lines_of after)) (sym refused)
-    ∙ ap (fold with_line (Ok told)) (sym first) ∙ same in
+    ∙ ap (fold with_line (Ok table)) (sym first) ∙ same in
     hosts_in-read text (Err (number, fault)) short over
 
 -- no line is left
-pub table_read : (told : Told) (rest text : List ℕ) → length text ≤ 4194304
-    → fold with_line (Ok told) (lines_of rest) ≡ fold with_line (Ok nothing_told) (lines_of text)
-    → rest ≡ [] → hosts_in text ≡ table_of (Ok told)
+pub table_read : (table : PartialTable) (rest text : List ℕ) → length text ≤ 4194304
+    → fold with_line (Ok table) (lines_of rest) ≡ fold with_line (Ok nothing_read) (lines_of text)
+    → rest ≡ [] → hosts_in text ≡ table_of (Ok table)
 unfolding lines_of pieces_of
-table_read told rest text short same none =
-    let end = ap (λ r. fold with_line (Ok told) (lines_of r)) (sym none) ∙ same in
-    hosts_in-read text (Ok told) short end
+table_read table rest text short same none =
+    let end = ap (λ r. fold with_line (Ok table) (lines_of r)) (sym none) ∙ same in
+    hosts_in-read text (Ok table) short end
 
 -- the exit of a `?`
 pub refused_by : (result : Result HostTable HostsFault) (fault : HostsFault) (wanted : Result HostTable (ℕ × HostFault))

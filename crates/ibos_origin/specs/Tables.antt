@@ -4,7 +4,7 @@ use Rattle.ibos_origin.specs.declared.fault.HostFault.{HostFault}
 use Rattle.ibos_origin.specs.declared.fault.HostFault.TheVariants.{Form, Twice, Many, NoSelf, TooLong}
 use Rattle.ibos_text.specs.Lines.{lines_of}
 use Rattle.std.specs.List.{list_all, IsDistinct}
-use Rattle.ibos_origin.specs.Entries.{Entry, is_name_byte, is_name, Nothing, Own, Gateway, Named, entry_in}
+use Rattle.ibos_origin.specs.HostLines.{HostLine, is_name_byte, is_name, Nothing, Own, Gateway, Named, host_line_in}
 use Rattle.ibos_origin.specs.Hosts.{Host, HostTable, address_of, host_of, names_of}
 
 -- each host's name has the bytes of a name
@@ -23,7 +23,7 @@ pub record IsSound (H : HostTable) : Type 0 where
   pub distinct : IsDistinct bytes_eq (names_of H.hosts)
 
 -- what lines have said
-pub record Told : Type 0 where
+pub record PartialTable : Type 0 where
   -- how many lines there were
   pub lines : ℕ
   -- the own address and MAC address
@@ -31,39 +31,39 @@ pub record Told : Type 0 where
   pub gateway : Option ℕ
   pub hosts : List Host
 
-abbrev pub nothing_told : Told
-nothing_told = record { lines = 0; own = None; gateway = None; hosts = [] }
+abbrev pub nothing_read : PartialTable
+nothing_read = record { lines = 0; own = None; gateway = None; hosts = [] }
 
 -- one more entry, or why it is refused
-abbrev pub with_entry : Told → Option Entry → Result Told HostFault
-with_entry told None = Err Form
-with_entry told (Some Nothing) = Ok told
-with_entry told (Some (Own addr mac)) = if is_some told.own then Err Twice else Ok (record told { own = Some (addr, mac) })
-with_entry told (Some (Gateway mac)) = if is_some told.gateway then Err Twice else Ok (record told { gateway = Some mac })
-with_entry told (Some (Named name addr)) =
-    if is_some (address_of told.hosts name) then Err Twice
-    else if nat_le 4096 (length told.hosts) then Err Many
-    else Ok (record told { hosts = told.hosts ++ host_of name addr ∷ [] })
+abbrev pub with_host_line : PartialTable → Option HostLine → Result PartialTable HostFault
+with_host_line table None = Err Form
+with_host_line table (Some Nothing) = Ok table
+with_host_line table (Some (Own addr mac)) = if is_some table.own then Err Twice else Ok (record table { own = Some (addr, mac) })
+with_host_line table (Some (Gateway mac)) = if is_some table.gateway then Err Twice else Ok (record table { gateway = Some mac })
+with_host_line table (Some (Named name addr)) =
+    if is_some (address_of table.hosts name) then Err Twice
+    else if nat_le 4096 (length table.hosts) then Err Many
+    else Ok (record table { hosts = table.hosts ++ host_of name addr ∷ [] })
 
 -- a fault with its line
 abbrev pub at_line : {T : Type 0} → ℕ → Result T HostFault → Result T (ℕ × HostFault)
-at_line number (Ok told) = Ok told
+at_line number (Ok table) = Ok table
 at_line number (Err fault) = Err (number, fault)
 
 -- one more line, unless an earlier one has a fault
-abbrev pub with_line : Result Told (ℕ × HostFault) → List ℕ → Result Told (ℕ × HostFault)
+abbrev pub with_line : Result PartialTable (ℕ × HostFault) → List ℕ → Result PartialTable (ℕ × HostFault)
 with_line (Err fault) line = Err fault
-with_line (Ok told) line = at_line (told.lines + 1) (with_entry (record told { lines = told.lines + 1 }) (entry_in line))
+with_line (Ok table) line = at_line (table.lines + 1) (with_host_line (record table { lines = table.lines + 1 }) (host_line_in line))
 
 -- both the own addresses and the gateway have to be there in the end
 abbrev pub table_with : ℕ → Option (ℕ × ℕ) → Option ℕ → List Host → Result HostTable (ℕ × HostFault)
 table_with lines (Some own) (Some gateway) hosts = Ok (record { local = record { addr = own.0; mac = own.1; gateway = gateway }; hosts = hosts })
 table_with lines own gateway hosts = Err (lines + 1, NoSelf)
 
-abbrev pub table_of : Result Told (ℕ × HostFault) → Result HostTable (ℕ × HostFault)
+abbrev pub table_of : Result PartialTable (ℕ × HostFault) → Result HostTable (ℕ × HostFault)
 table_of (Err fault) = Err fault
-table_of (Ok told) = table_with told.lines told.own told.gateway told.hosts
+table_of (Ok table) = table_with table.lines table.own table.gateway table.hosts
 
 -- the host table of a text
 unfoldable pub hosts_in : List ℕ → Result HostTable (ℕ × HostFault)
-hosts_in text = if nat_lt 4194304 (length text) then Err (0, TooLong) else table_of (fold with_line (Ok nothing_told) (lines_of text))
+hosts_in text = if nat_lt 4194304 (length text) then Err (0, TooLong) else table_of (fold with_line (Ok nothing_read) (lines_of text))

@@ -2,7 +2,7 @@
 ghost use Rattle.std.specs.Prelude.{◌≡◌, ◌-◌, ◌^◌, ◌<◌, Ok, OnOk, IfOk, IfErr, Some, None};
 ghost use Rattle.ibos_origin.specs.Hosts.{address_of};
 
-use crate::entry::{Entry, read_entry};
+use crate::host_line::{HostLine, read_host_line};
 use crate::fault::{HostFault, HostsFault};
 use crate::index::HostIndex;
 use ibos_kinds::Local;
@@ -10,9 +10,9 @@ use ibos_text::next_line;
 use std::alloc::Global;
 use std::marker::Model;
 
-const LONGEST: usize = 4_194_304;
+const MAX_TABLE: usize = 4_194_304;
 
-const MOST_HOSTS: usize = 4096;
+const MAX_HOSTS: usize = 4096;
 
 /// The host table of a run: this machine's addresses, and the hosts that pages may name.
 #[derive(Debug, Drop)]
@@ -46,19 +46,19 @@ impl Hosts {
     pub fn read(alloc: Global, bytes: &[u8]) -> Result<Hosts, HostsFault>
         ensures { Reads result (hosts_in bytes.now) }
     {
-        if bytes.len() > LONGEST {
+        if bytes.len() > MAX_TABLE {
             return Err(HostsFault::At {
                 line: 0,
                 fault: HostFault::TooLong,
             });
         }
-        let mut told = Told::new(alloc);
+        let mut table = PartialTable::new(alloc);
         let mut rest = bytes;
         'lines: while let Some((line, after)) = next_line(rest) {
-            told.read_line(alloc, line)?;
+            table.read_line(alloc, line)?;
             rest = after;
         }
-        let (local, hosts) = told.finish()?;
+        let (local, hosts) = table.finish()?;
         Ok(Hosts { local, hosts })
     }
 
@@ -86,30 +86,30 @@ impl Hosts {
 
 // What the lines so far have said.
 #[derive(Drop)]
-struct Told {
+struct PartialTable {
     lines: u32,
     own: Option<(u32, u64)>,
     gateway: Option<u64>,
     hosts: HostIndex,
 }
 
-impl Model for Told {
-    ghost use Rattle.ibos_origin.specs.Tables.{Told};
+impl Model for PartialTable {
+    ghost use Rattle.ibos_origin.specs.Tables.{PartialTable};
 
-    ghost Value = { Told };
+    ghost Value = { PartialTable };
 
     ghost view = { λ t. record { lines = t.lines; own = t.own; gateway = t.gateway; hosts = t.hosts } };
 }
 
-impl Told {
-    ghost use Rattle.ibos_origin.specs.Tables.{nothing_told, with_line, with_entry, at_line, table_of};
-    ghost use Rattle.ibos_origin.specs.Entries.{Own, Gateway, Named};
+impl PartialTable {
+    ghost use Rattle.ibos_origin.specs.Tables.{nothing_read, with_line, with_host_line, at_line, table_of};
+    ghost use Rattle.ibos_origin.specs.HostLines.{Own, Gateway, Named};
     ghost use Rattle.ibos_origin.specs.Reads.{Refuses, Reads};
 
-    fn new(alloc: Global) -> Told
-        ensures { result ≡ nothing_told }
+    fn new(alloc: Global) -> PartialTable
+        ensures { result ≡ nothing_read }
     {
-        Told {
+        PartialTable {
             lines: 0,
             own: None,
             gateway: None,
@@ -123,12 +123,12 @@ impl Told {
         ensures err { IfErr result (λ fault. Refuses fault (with_line (Ok self.old) line.now)) }
     {
         self.lines += 1;
-        match read_entry(line) {
+        match read_host_line(line) {
             None => Err(self.fault(HostFault::Form)),
-            Some(Entry::Nothing) => Ok(()),
-            Some(Entry::Own { addr, mac }) => self.set_own(addr, mac),
-            Some(Entry::Gateway { mac }) => self.set_gateway(mac),
-            Some(Entry::Named { name, addr }) => self.add_host(alloc, name, addr),
+            Some(HostLine::Nothing) => Ok(()),
+            Some(HostLine::Own { addr, mac }) => self.set_own(addr, mac),
+            Some(HostLine::Gateway { mac }) => self.set_gateway(mac),
+            Some(HostLine::Named { name, addr }) => self.add_host(alloc, name, addr),
         }
     }
 
@@ -142,8 +142,8 @@ impl Told {
     }
 
     fn set_own(&mut self, addr: u32, mac: u64) -> Result<(), HostsFault>
-        ensures ok { OnOk result (with_entry self.old (Some (Own addr mac)) ≡ Ok self.new) }
-        ensures err { IfErr result (λ fault. Refuses fault (at_line self.old.lines (with_entry self.old (Some (Own addr mac))))) }
+        ensures ok { OnOk result (with_host_line self.old (Some (Own addr mac)) ≡ Ok self.new) }
+        ensures err { IfErr result (λ fault. Refuses fault (at_line self.old.lines (with_host_line self.old (Some (Own addr mac))))) }
     {
         if self.own.is_some() {
             return Err(self.fault(HostFault::Twice));
@@ -153,8 +153,8 @@ impl Told {
     }
 
     fn set_gateway(&mut self, mac: u64) -> Result<(), HostsFault>
-        ensures ok { OnOk result (with_entry self.old (Some (Gateway mac)) ≡ Ok self.new) }
-        ensures err { IfErr result (λ fault. Refuses fault (at_line self.old.lines (with_entry self.old (Some (Gateway mac))))) }
+        ensures ok { OnOk result (with_host_line self.old (Some (Gateway mac)) ≡ Ok self.new) }
+        ensures err { IfErr result (λ fault. Refuses fault (at_line self.old.lines (with_host_line self.old (Some (Gateway mac))))) }
     {
         if self.gateway.is_some() {
             return Err(self.fault(HostFault::Twice));
@@ -164,13 +164,13 @@ impl Told {
     }
 
     fn add_host(&mut self, alloc: Global, name: &[u8], addr: u32) -> Result<(), HostsFault>
-        ensures ok { OnOk result (with_entry self.old (Some (Named name.now addr)) ≡ Ok self.new) }
-        ensures err { IfErr result (λ fault. Refuses fault (at_line self.old.lines (with_entry self.old (Some (Named name.now addr))))) }
+        ensures ok { OnOk result (with_host_line self.old (Some (Named name.now addr)) ≡ Ok self.new) }
+        ensures err { IfErr result (λ fault. Refuses fault (at_line self.old.lines (with_host_line self.old (Some (Named name.now addr))))) }
     {
         if self.hosts.address(name).is_some() {
             return Err(self.fault(HostFault::Twice));
         }
-        if self.hosts.len() >= MOST_HOSTS {
+        if self.hosts.len() >= MAX_HOSTS {
             return Err(self.fault(HostFault::Many));
         }
         self.hosts.push(alloc, name, addr)?;
@@ -182,7 +182,7 @@ impl Told {
         ensures ok { IfOk result (λ table. table_of (Ok self) ≡ Ok (record { local = table.0; hosts = table.1 })) }
         ensures err { IfErr result (λ fault. Refuses fault (table_of (Ok self))) }
     {
-        let Told {
+        let PartialTable {
             lines,
             own,
             gateway,

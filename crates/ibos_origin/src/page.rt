@@ -1,7 +1,8 @@
 // Allowed URLs.
-ghost use Rattle.std.specs.Prelude.{◌≡◌, Ok, Err, true, false, IfOk, MatchOption};
+ghost use Rattle.std.specs.Prelude.{◌≡◌, List, ℕ, None, Ok, true, false, IfOk, MatchOption};
 ghost use Rattle.std.specs.Str.{is_utf8};
-ghost use Rattle.url.specs.Parts.{Parts, has_credentials};
+ghost use Rattle.url.specs.Parser.{parse_url};
+ghost use Rattle.url.specs.Parts.{has_credentials, serialize};
 ghost use Rattle.url.specs.Origin.{is_http};
 ghost use Rattle.ibos_origin.specs.Pages.{allowed, allowed_url, origin_text, host_of, endpoint_of};
 ghost use Rattle.ibos_origin.specs.Pages as spec;
@@ -11,7 +12,7 @@ use ibos_kinds::{Bytes, Endpoint, Memory, Rule};
 use std::alloc::{AllocError, Global};
 use std::marker::Model;
 use thiserror::Error;
-use url::{ParseError, Url};
+use url::{ParseError, Position, Url};
 
 /// Why a text is no page: the first rule that it breaks, or want of memory.
 #[derive(Clone, Copy, Debug, PartialEq, Eq, Error)]
@@ -33,9 +34,9 @@ impl From<Memory> for UrlFault {
 }
 
 // The most bytes of a serialized URL, and of an origin.
-const LONGEST_URL: usize = 1024;
+const MAX_URL: usize = 1024;
 
-const LONGEST_ORIGIN: usize = 72;
+const MAX_ORIGIN: usize = 72;
 
 /// An allowed URL, its origin and where it leads.
 #[derive(Debug, Drop)]
@@ -94,42 +95,40 @@ impl Page {
             return Err(UrlFault::Denied(Rule::U4));
         };
         match Url::parse(alloc, text) {
-            Ok(url) => Ok(Page::of_url(alloc, hosts, &url)?),
+            Ok(url) => Ok(Page::of_url(alloc, hosts, url)?),
             Err(ParseError::OutOfMemory | ParseError::Overflow) => Err(UrlFault::Memory),
             Err(_) => Err(UrlFault::Denied(Rule::U4)),
         }
     }
 
     #[tactic(auto, unfolding(crate::specs::Pages::allowed_url))]
-    fn of_url(alloc: Global, hosts: &Hosts, url: &Url) -> Result<Page, UrlFault>
-        ensures { Gives result (allowed_url hosts.now url.now) }
+    fn of_url(alloc: Global, hosts: &Hosts, url: Url) -> Result<Page, UrlFault>
+        requires parsed { (text : List ℕ) × (parse_url None text ≡ Ok url) }
+        ensures { Gives result (allowed_url hosts.now url) }
     {
-        if !is_web(url) {
+        if !is_web(&url) {
             return Err(UrlFault::Denied(Rule::U5));
         }
-        if has_user(url) {
+        if has_user(&url) {
             return Err(UrlFault::Denied(Rule::U6));
         }
-        if url.as_str().len() > LONGEST_URL {
+        if url.as_str().len() > MAX_URL {
             return Err(UrlFault::Denied(Rule::U7));
         }
-        let origin = origin_bytes(alloc, url)?;
-        if origin.len() > LONGEST_ORIGIN {
+        let origin = origin_in(&url);
+        if origin.len() > MAX_ORIGIN {
             return Err(UrlFault::Denied(Rule::U8));
         }
-        match address_at(hosts, url) {
-            None => Err(UrlFault::Denied(Rule::U9)),
-            Some(addr) => {
-                let mut text = Bytes::new(alloc);
-                text.push_slice(url.as_str().as_bytes())?;
-                Ok(Page {
-                    url: text,
-                    origin,
-                    addr,
-                    port: url.port_or_known_default().unwrap_or(0),
-                })
-            }
-        }
+        let Some(addr) = address_at(hosts, &url) else {
+            return Err(UrlFault::Denied(Rule::U9));
+        };
+        let origin = copy_of(alloc, origin)?;
+        Ok(Page {
+            origin,
+            addr,
+            port: url.port_or_known_default().unwrap_or(0),
+            url: text_of(url),
+        })
     }
 }
 
@@ -164,15 +163,27 @@ fn address_at(hosts: &Hosts, url: &Url) -> Option<u32>
     }
 }
 
-#[tactic(auto, unfolding(crate::specs::Pages::origin_text))]
-fn origin_bytes(alloc: Global, url: &Url) -> Result<Bytes, Memory>
-    ensures { IfOk result (λ text. text ≡ origin_text url.now) }
+// The origin's text is the front of the URL's.
+fn origin_in(url: &Url) -> &str
+    requires parsed { (text : List ℕ) × (parse_url None text ≡ Ok url.now) }
+    requires web { is_http url.now.scheme ≡ true }
+    requires no_user { has_credentials url.now ≡ false }
+    ensures { result.now ≡ origin_text url.now }
 {
-    let Ok(origin) = url.origin() else {
-        return Err(Memory);
-    };
-    let text = origin.ascii_serialization(alloc)?;
-    let mut bytes = Bytes::new(alloc);
-    bytes.push_slice(text.as_bytes())?;
-    Ok(bytes)
+    url.slice(Position::BeforeScheme, Position::AfterPort)
+}
+
+fn copy_of(alloc: Global, text: &str) -> Result<Bytes, Memory>
+    ensures { IfOk result (λ copy. copy ≡ text.now) }
+{
+    let copy = Vec::from_slice(alloc, text.as_bytes())?;
+    Ok(Bytes::from(copy))
+}
+
+// The serialized URL, which is not copied.
+fn text_of(url: Url) -> Bytes
+    ensures { result ≡ serialize url }
+{
+    let text = String::from(url);
+    Bytes::from(text.into_bytes())
 }

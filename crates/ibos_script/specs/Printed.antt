@@ -1,5 +1,5 @@
 -- The text of an outcome: one line for its head and one for each item, each with the act's number.
-use Rattle.std.specs.Prelude.{◌≡◌, ℕ, List, [], ◌∷◌, ◌++◌, codes, decimal}
+use Rattle.std.specs.Prelude.{◌≡◌, ℕ, List, [], ◌∷◌, ◌++◌, codes, decimal, Result, Ok as Done, Err}
 use Rattle.std.specs.Borrow.{Bor}
 use Rattle.std.specs.List.{flat_map}
 use Rattle.hex.specs.Hex.{encode_lower}
@@ -72,3 +72,8 @@ pub record IsCutShort (old new wanted : List ℕ) : Type 0 where
   pub rest : List ℕ
   pub written : new ≡ old ++ front
   pub whole : front ++ rest ≡ wanted
+
+-- a text was appended, or a front of it
+abbrev pub Appends : {T E : Type 0} → Result T E → List ℕ → List ℕ → List ℕ → Type 0
+Appends (Done x) old new wanted = new ≡ old ++ wanted
+Appends (Err e) old new wanted = IsCutShort old new wanted

@@ -2,7 +2,7 @@
 ghost use Rattle.std.specs.Prelude.{◌≡◌, ◌++◌, [], ◌∷◌, OnOk, OnErr, codes, decimal};
 ghost use Rattle.hex.specs.Hex.{encode_lower};
 ghost use Rattle.ibos_script.specs.Printed as spec;
-ghost use Rattle.ibos_script.specs.Printed.{outcome_text, line_text, head_text, item_text, items_text, pieces_text, IsCutShort};
+ghost use Rattle.ibos_script.specs.Printed.{Appends, IsCutShort, outcome_text, line_text, head_text, item_text, items_text, pieces_text};
 
 use ibos_kinds::{Bytes, Head, Instance, Item, Memory, Outcome};
 use itoa::Buffer;
@@ -28,8 +28,7 @@ pub fn write_outcome(
 }
 
 fn write_items(digits: &[u8], items: &[Item], text: &mut Bytes) -> Result<(), Memory>
-    ensures ok { OnOk result (text.new ≡ text.old ++ items_text digits.now items.now) }
-    ensures err { OnErr result (IsCutShort text.old text.new (items_text digits.now items.now)) }
+    ensures { Appends result text.old text.new (items_text digits.now items.now) }
 {
     for item in items {
         write_item(digits, item, text)?;
@@ -39,8 +38,7 @@ fn write_items(digits: &[u8], items: &[Item], text: &mut Bytes) -> Result<(), Me
 
 #[tactic(auto, unfolding(crate::specs::Printed::line_text, crate::specs::Printed::head_text))]
 fn write_head(digits: &[u8], head: Head, text: &mut Bytes) -> Result<(), Memory>
-    ensures ok { OnOk result (text.new ≡ text.old ++ line_text digits.now (head_text head)) }
-    ensures err { OnErr result (IsCutShort text.old text.new (line_text digits.now (head_text head))) }
+    ensures { Appends result text.old text.new (line_text digits.now (head_text head)) }
 {
     match head {
         Head::Ok => push_pieces(text, &[digits, b" ok\n"]),
@@ -57,16 +55,15 @@ fn write_denied<'a>(
     name: &'a [u8],
     text: &mut Bytes,
 ) -> Result<(), Memory>
-    ensures ok { OnOk result (text.new ≡ text.old ++ line_text digits.now (codes "denied " ++ code.now ++ codes " " ++ name.now)) }
-    ensures err { OnErr result (IsCutShort text.old text.new (line_text digits.now (codes "denied " ++ code.now ++ codes " " ++ name.now))) }
+    ensures { Appends result text.old text.new
+        (line_text digits.now (codes "denied " ++ code.now ++ codes " " ++ name.now)) }
 {
     push_pieces(text, &[digits, b" denied ", code, b" ", name, b"\n"])
 }
 
 #[tactic(auto, unfolding(crate::specs::Printed::line_text, crate::specs::Printed::item_text))]
 fn write_item(digits: &[u8], item: &Item, text: &mut Bytes) -> Result<(), Memory>
-    ensures ok { OnOk result (text.new ≡ text.old ++ line_text digits.now (item_text item.now)) }
-    ensures err { OnErr result (IsCutShort text.old text.new (line_text digits.now (item_text item.now))) }
+    ensures { Appends result text.old text.new (line_text digits.now (item_text item.now)) }
 {
     match item {
         Item::Opened { who, url } => write_told(digits, *who, b" opened ", url.as_slice(), text),
@@ -91,8 +88,8 @@ fn write_told(
     told: &[u8],
     text: &mut Bytes,
 ) -> Result<(), Memory>
-    ensures ok { OnOk result (text.new ≡ text.old ++ line_text digits.now (spec.instance_text who ++ word.now ++ told.now)) }
-    ensures err { OnErr result (IsCutShort text.old text.new (line_text digits.now (spec.instance_text who ++ word.now ++ told.now))) }
+    ensures { Appends result text.old text.new
+        (line_text digits.now (spec.instance_text who ++ word.now ++ told.now)) }
 {
     let mut tab = Buffer::new();
     let mut ord = Buffer::new();
@@ -110,8 +107,8 @@ fn write_parts<'a>(
     told: &'a [u8],
     text: &mut Bytes,
 ) -> Result<(), Memory>
-    ensures ok { OnOk result (text.new ≡ text.old ++ line_text digits.now ((tab.now ++ codes "." ++ ord.now) ++ word.now ++ told.now)) }
-    ensures err { OnErr result (IsCutShort text.old text.new (line_text digits.now ((tab.now ++ codes "." ++ ord.now) ++ word.now ++ told.now))) }
+    ensures { Appends result text.old text.new
+        (line_text digits.now ((tab.now ++ codes "." ++ ord.now) ++ word.now ++ told.now)) }
 {
     push_pieces(text, &[digits, b" ", tab, b".", ord, word, told, b"\n"])
 }
@@ -136,8 +133,8 @@ fn write_click(
     col: u8,
     text: &mut Bytes,
 ) -> Result<(), Memory>
-    ensures ok { OnOk result (text.new ≡ text.old ++ line_text digits.now (spec.instance_text who ++ codes " click " ++ decimal row ++ codes " " ++ decimal col)) }
-    ensures err { OnErr result (IsCutShort text.old text.new (line_text digits.now (spec.instance_text who ++ codes " click " ++ decimal row ++ codes " " ++ decimal col))) }
+    ensures { Appends result text.old text.new
+        (line_text digits.now (spec.instance_text who ++ codes " click " ++ decimal row ++ codes " " ++ decimal col)) }
 {
     let mut tab = Buffer::new();
     let mut ord = Buffer::new();
@@ -160,8 +157,8 @@ fn write_cell<'a>(
     col: &'a [u8],
     text: &mut Bytes,
 ) -> Result<(), Memory>
-    ensures ok { OnOk result (text.new ≡ text.old ++ line_text digits.now ((tab.now ++ codes "." ++ ord.now) ++ word.now ++ row.now ++ codes " " ++ col.now)) }
-    ensures err { OnErr result (IsCutShort text.old text.new (line_text digits.now ((tab.now ++ codes "." ++ ord.now) ++ word.now ++ row.now ++ codes " " ++ col.now))) }
+    ensures { Appends result text.old text.new
+        (line_text digits.now ((tab.now ++ codes "." ++ ord.now) ++ word.now ++ row.now ++ codes " " ++ col.now)) }
 {
     push_pieces(
         text,
@@ -171,8 +168,8 @@ fn write_cell<'a>(
 
 // A row of the screen.
 fn write_row(digits: &[u8], row: u8, cells: &[u8], text: &mut Bytes) -> Result<(), Memory>
-    ensures ok { OnOk result (text.new ≡ text.old ++ line_text digits.now (codes "user row " ++ decimal row ++ codes " |" ++ cells.now)) }
-    ensures err { OnErr result (IsCutShort text.old text.new (line_text digits.now (codes "user row " ++ decimal row ++ codes " |" ++ cells.now))) }
+    ensures { Appends result text.old text.new
+        (line_text digits.now (codes "user row " ++ decimal row ++ codes " |" ++ cells.now)) }
 {
     let mut number = Buffer::new();
     let number = number.format(row).as_bytes();
@@ -186,8 +183,8 @@ fn write_cells<'a>(
     cells: &'a [u8],
     text: &mut Bytes,
 ) -> Result<(), Memory>
-    ensures ok { OnOk result (text.new ≡ text.old ++ line_text digits.now (codes "user row " ++ row.now ++ codes " |" ++ cells.now)) }
-    ensures err { OnErr result (IsCutShort text.old text.new (line_text digits.now (codes "user row " ++ row.now ++ codes " |" ++ cells.now))) }
+    ensures { Appends result text.old text.new
+        (line_text digits.now (codes "user row " ++ row.now ++ codes " |" ++ cells.now)) }
 {
     push_pieces(text, &[digits, b" user row ", row, b" |", cells, b"\n"])
 }
@@ -201,8 +198,7 @@ fn or_dash(text: &[u8]) -> &[u8]
 
 // Appends pieces, one after another.
 fn push_pieces(text: &mut Bytes, pieces: &[&[u8]]) -> Result<(), Memory>
-    ensures ok { OnOk result (text.new ≡ text.old ++ pieces_text pieces.now) }
-    ensures err { OnErr result (IsCutShort text.old text.new (pieces_text pieces.now)) }
+    ensures { Appends result text.old text.new (pieces_text pieces.now) }
 {
     for piece in pieces {
         text.push_slice(piece)?;

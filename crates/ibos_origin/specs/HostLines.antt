@@ -4,11 +4,11 @@ use Rattle.std.specs.List.{list_all}
 use Rattle.ibos_text.specs.Words.{words_of}
 use Rattle.ibos_origin.specs.Addresses.{addr_in, mac_in}
 
-pub data Entry : Type 0 where
-  Nothing : Entry
-  Own : (addr mac : ℕ) → Entry
-  Gateway : (mac : ℕ) → Entry
-  Named : (name : List ℕ) (addr : ℕ) → Entry
+pub data HostLine : Type 0 where
+  Nothing : HostLine
+  Own : (addr mac : ℕ) → HostLine
+  Gateway : (mac : ℕ) → HostLine
+  Named : (name : List ℕ) (addr : ℕ) → HostLine
 
 -- `a` to `z`, `0` to `9`, `-`, `.` and `_`
 abbrev pub is_name_byte : ℕ → Bool
@@ -24,27 +24,27 @@ only_word (word ∷ []) = Some word
 only_word words = None
 
 -- behind `self`: ADDR MAC
-abbrev pub own_of : Option ℕ → Option ℕ → Option Entry
+abbrev pub own_of : Option ℕ → Option ℕ → Option HostLine
 own_of (Some addr) (Some mac) = Some (Own addr mac)
 own_of addr mac = None
 
-abbrev pub own_in : List (List ℕ) → Option Entry
+abbrev pub own_in : List (List ℕ) → Option HostLine
 own_in (addr ∷ mac ∷ []) = own_of (addr_in addr) (mac_in mac)
 own_in words = None
 
 -- behind `gateway`: MAC
-abbrev pub gateway_in : List (List ℕ) → Option Entry
+abbrev pub gateway_in : List (List ℕ) → Option HostLine
 gateway_in (mac ∷ []) = option_map Gateway (mac_in mac)
 gateway_in words = None
 
 -- behind `host`: NAME ADDR
-abbrev pub named_in : List (List ℕ) → Option Entry
+abbrev pub named_in : List (List ℕ) → Option HostLine
 named_in (name ∷ addr ∷ []) = if is_name name then option_map (Named name) (addr_in addr) else None
 named_in words = None
 
-unfoldable pub entry_by : List (List ℕ) → Option Entry
-entry_by [] = None
-entry_by (command ∷ words) =
+unfoldable pub host_line_by : List (List ℕ) → Option HostLine
+host_line_by [] = None
+host_line_by (command ∷ words) =
     if bytes_eq command (codes "self") then own_in words
     else if bytes_eq command (codes "gateway") then gateway_in words
     else if bytes_eq command (codes "host") then named_in words
@@ -56,5 +56,5 @@ is_passed_over [] = true
 is_passed_over (b ∷ bytes) = b == 35
 
 -- what a line says, if it has one of the forms
-unfoldable pub entry_in : List ℕ → Option Entry
-entry_in line = if is_passed_over line then Some Nothing else entry_by (words_of line)
+unfoldable pub host_line_in : List ℕ → Option HostLine
+host_line_in line = if is_passed_over line then Some Nothing else host_line_by (words_of line)
