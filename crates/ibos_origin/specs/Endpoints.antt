@@ -13,7 +13,8 @@ port_behind standard (colon ∷ digits) = digits_value 10 digits
 abbrev pub endpoint_behind : HostTable → ℕ → List ℕ → Option Endpoint
 endpoint_behind H standard text =
     let len = len_before 58 text in
-    option_map (λ addr. record { addr = addr; port = port_behind standard (drop len text) }) (address_of H.hosts (take len text))
+    option_map (λ addr. record { addr = addr; port = port_behind standard (drop len text) })
+    (address_of H.hosts (take len text))
 
 -- the table's address of the origin's host, and the origin's port
 unfoldable pub origin_endpoint : HostTable → List ℕ → Option Endpoint

@@ -1,4 +1,4 @@
--- What an entry that was read says.
+-- What a line that was read says.
 use Rattle.ibos_origin.specs.declared.host_line.HostLine as read
 use Rattle.ibos_origin.specs.declared.host_line.HostLine.TheVariants as read_as
 use Rattle.ibos_origin.specs.HostLines.{HostLine, Nothing, Own, Gateway, Named}

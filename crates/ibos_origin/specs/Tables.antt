@@ -34,12 +34,14 @@ pub record PartialTable : Type 0 where
 abbrev pub nothing_read : PartialTable
 nothing_read = record { lines = 0; own = None; gateway = None; hosts = [] }
 
--- one more entry, or why it is refused
+-- one more line that was read, or why it is refused
 abbrev pub with_host_line : PartialTable → Option HostLine → Result PartialTable HostFault
 with_host_line table None = Err Form
 with_host_line table (Some Nothing) = Ok table
-with_host_line table (Some (Own addr mac)) = if is_some table.own then Err Twice else Ok (record table { own = Some (addr, mac) })
-with_host_line table (Some (Gateway mac)) = if is_some table.gateway then Err Twice else Ok (record table { gateway = Some mac })
+with_host_line table (Some (Own addr mac)) =
+    if is_some table.own then Err Twice else Ok (record table { own = Some (addr, mac) })
+with_host_line table (Some (Gateway mac)) =
+    if is_some table.gateway then Err Twice else Ok (record table { gateway = Some mac })
 with_host_line table (Some (Named name addr)) =
     if is_some (address_of table.hosts name) then Err Twice
     else if nat_le 4096 (length table.hosts) then Err Many
@@ -53,11 +55,13 @@ at_line number (Err fault) = Err (number, fault)
 -- one more line, unless an earlier one has a fault
 abbrev pub with_line : Result PartialTable (ℕ × HostFault) → List ℕ → Result PartialTable (ℕ × HostFault)
 with_line (Err fault) line = Err fault
-with_line (Ok table) line = at_line (table.lines + 1) (with_host_line (record table { lines = table.lines + 1 }) (host_line_in line))
+with_line (Ok table) line =
+    at_line (table.lines + 1) (with_host_line (record table { lines = table.lines + 1 }) (host_line_in line))
 
 -- both the own addresses and the gateway have to be there in the end
 abbrev pub table_with : ℕ → Option (ℕ × ℕ) → Option ℕ → List Host → Result HostTable (ℕ × HostFault)
-table_with lines (Some own) (Some gateway) hosts = Ok (record { local = record { addr = own.0; mac = own.1; gateway = gateway }; hosts = hosts })
+table_with lines (Some own) (Some gateway) hosts =
+    Ok (record { local = record { addr = own.0; mac = own.1; gateway = gateway }; hosts = hosts })
 table_with lines own gateway hosts = Err (lines + 1, NoSelf)
 
 abbrev pub table_of : Result PartialTable (ℕ × HostFault) → Result HostTable (ℕ × HostFault)
@@ -66,4 +70,6 @@ table_of (Ok table) = table_with table.lines table.own table.gateway table.hosts
 
 -- the host table of a text
 unfoldable pub hosts_in : List ℕ → Result HostTable (ℕ × HostFault)
-hosts_in text = if nat_lt 4194304 (length text) then Err (0, TooLong) else table_of (fold with_line (Ok nothing_read) (lines_of text))
+hosts_in text =
+    if nat_lt 4194304 (length text) then Err (0, TooLong)
+    else table_of (fold with_line (Ok nothing_read) (lines_of text))

@@ -11,8 +11,7 @@ use std::net::Ipv4Addr;
 
 const PAIRS: usize = 6;
 
-/// The IPv4 address that a word writes: four decimal numbers below 256 without leading zeros, with a dot
-/// between each two.
+/// The IPv4 address that a word writes in dotted decimal, its first number the highest byte.
 pub fn addr_in(word: &[u8]) -> Option<u32>
     ensures { result ≡ spec.addr_in word.now }
 {
@@ -22,8 +21,8 @@ pub fn addr_in(word: &[u8]) -> Option<u32>
     }
 }
 
-/// The MAC address that a word writes: six pairs of hexadecimal digits with a colon between each two. The
-/// first pair is the highest byte.
+/// The MAC address that a word writes as in `02:00:5e:10:00:01`, in digits of either case. Its first byte is
+/// the highest.
 pub fn mac_in(word: &[u8]) -> Option<u64>
     ensures { result ≡ spec.mac_in word.now }
 {

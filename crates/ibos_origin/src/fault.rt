@@ -49,8 +49,8 @@ impl HostFault {
     }
 }
 
-/// Why no host table was read: the first fault and the line that has it, or want of memory. Lines are
-/// counted from 1, those without an entry too. `TooLong` has line 0, and `NoSelf` the line after the last.
+/// Why no host table was read: its first fault and where that is, or out of memory. All lines count, from
+/// 1. A fault of the whole table stands outside of them: `TooLong` at 0, `NoSelf` one past the last line.
 #[derive(Clone, Copy, Debug, PartialEq, Eq, Error)]
 pub enum HostsFault {
     #[error("line {line}: {fault}")]

@@ -2,14 +2,15 @@
 ghost use Rattle.std.specs.Prelude.{◌≡◌, ◌-◌, ◌^◌, ◌<◌, Ok, OnOk, IfOk, IfErr, Some, None};
 ghost use Rattle.ibos_origin.specs.Hosts.{address_of};
 
-use crate::host_line::{HostLine, read_host_line};
 use crate::fault::{HostFault, HostsFault};
+use crate::host_line::{HostLine, read_host_line};
 use crate::index::HostIndex;
 use ibos_kinds::Local;
 use ibos_text::next_line;
 use std::alloc::Global;
 use std::marker::Model;
 
+// In bytes.
 const MAX_TABLE: usize = 4_194_304;
 
 const MAX_HOSTS: usize = 4096;
@@ -39,9 +40,15 @@ impl Hosts {
 
     /// Reads a host table, or tells its first fault.
     ///
-    /// Each line that is not empty and doesn't begin with `#` is one of `self ADDR MAC`, `gateway MAC` and
-    /// `host NAME ADDR`, whose words are parted by spaces. A name has 1 to 253 of the bytes `a` to `z`, `0`
-    /// to `9`, `-`, `.` and `_`.
+    /// | Line | says |
+    /// |---|---|
+    /// | `self ADDR MAC` | the addresses of this machine |
+    /// | `gateway MAC` | the next hop of every frame |
+    /// | `host NAME ADDR` | where a host is, for up to 4,096 names |
+    /// | empty, or `#` first | nothing |
+    ///
+    /// Spaces part the words. ADDR is an IPv4 address as in `192.0.2.1`, MAC six bytes as in
+    /// `02:00:5e:10:00:01`, and NAME up to 253 of the bytes `-._0-9a-z`.
     #[tactic(auto, unfolding(crate::specs::Tables::hosts_in))]
     pub fn read(alloc: Global, bytes: &[u8]) -> Result<Hosts, HostsFault>
         ensures { Reads result (hosts_in bytes.now) }
@@ -62,7 +69,7 @@ impl Hosts {
         Ok(Hosts { local, hosts })
     }
 
-    /// Tells a caller what holds of each host table.
+    /// Does nothing: its clause says what holds of each host table.
     pub fn sound(&self)
         ensures { IsSound self.now }
     {
@@ -98,7 +105,8 @@ impl Model for PartialTable {
 
     ghost Value = { PartialTable };
 
-    ghost view = { λ t. record { lines = t.lines; own = t.own; gateway = t.gateway; hosts = t.hosts } };
+    ghost view = { λ t.
+        record { lines = t.lines; own = t.own; gateway = t.gateway; hosts = t.hosts } };
 }
 
 impl PartialTable {
@@ -143,7 +151,8 @@ impl PartialTable {
 
     fn set_own(&mut self, addr: u32, mac: u64) -> Result<(), HostsFault>
         ensures ok { OnOk result (with_host_line self.old (Some (Own addr mac)) ≡ Ok self.new) }
-        ensures err { IfErr result (λ fault. Refuses fault (at_line self.old.lines (with_host_line self.old (Some (Own addr mac))))) }
+        ensures err { IfErr result (λ fault.
+            Refuses fault (at_line self.old.lines (with_host_line self.old (Some (Own addr mac))))) }
     {
         if self.own.is_some() {
             return Err(self.fault(HostFault::Twice));
@@ -154,7 +163,8 @@ impl PartialTable {
 
     fn set_gateway(&mut self, mac: u64) -> Result<(), HostsFault>
         ensures ok { OnOk result (with_host_line self.old (Some (Gateway mac)) ≡ Ok self.new) }
-        ensures err { IfErr result (λ fault. Refuses fault (at_line self.old.lines (with_host_line self.old (Some (Gateway mac))))) }
+        ensures err { IfErr result (λ fault.
+            Refuses fault (at_line self.old.lines (with_host_line self.old (Some (Gateway mac))))) }
     {
         if self.gateway.is_some() {
             return Err(self.fault(HostFault::Twice));
@@ -165,7 +175,8 @@ impl PartialTable {
 
     fn add_host(&mut self, alloc: Global, name: &[u8], addr: u32) -> Result<(), HostsFault>
         ensures ok { OnOk result (with_host_line self.old (Some (Named name.now addr)) ≡ Ok self.new) }
-        ensures err { IfErr result (λ fault. Refuses fault (at_line self.old.lines (with_host_line self.old (Some (Named name.now addr))))) }
+        ensures err { IfErr result (λ fault. Refuses fault
+            (at_line self.old.lines (with_host_line self.old (Some (Named name.now addr))))) }
     {
         if self.hosts.address(name).is_some() {
             return Err(self.fault(HostFault::Twice));
@@ -179,7 +190,8 @@ impl PartialTable {
 
     fn finish(self) -> Result<(Local, HostIndex), HostsFault>
         requires { self.lines < 2 ^ 32 - 1 }
-        ensures ok { IfOk result (λ table. table_of (Ok self) ≡ Ok (record { local = table.0; hosts = table.1 })) }
+        ensures ok { IfOk result (λ table.
+            table_of (Ok self) ≡ Ok (record { local = table.0; hosts = table.1 })) }
         ensures err { IfErr result (λ fault. Refuses fault (table_of (Ok self))) }
     {
         let PartialTable {

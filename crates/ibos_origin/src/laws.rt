@@ -15,15 +15,13 @@ pub fn urls_begin_with_their_origin()
         (rest : List ℕ) × (page.url ≡ page.origin ++ rest) }
     ensures short { (H : HostTable) (text : List ℕ) (page : Page) → allowed H text ≡ Ok page →
         length page.origin ≤ 72 }
-{
-}
+{}
 
 /// The origin of an allowed URL is printable: its host is a name of the table.
 pub fn origins_are_printable()
-    ensures { (H : HostTable) (text : List ℕ) (page : Page) → HasPlainNames H → allowed H text ≡ Ok page →
-        list_all is_pixel page.origin ≡ true }
-{
-}
+    ensures { (H : HostTable) (text : List ℕ) (page : Page) → HasPlainNames H →
+        allowed H text ≡ Ok page → list_all is_pixel page.origin ≡ true }
+{}
 
 /// Where a page is follows from its origin's text: the table's address of the origin's host, and the port
 /// that is written there, or else its scheme's, 80 or 443. So all pages of one origin are at one endpoint.
@@ -33,18 +31,15 @@ pub fn endpoints_follow_origins()
     ensures same { (H : HostTable) (first second : List ℕ) (p q : Page) → HasPlainNames H →
         allowed H first ≡ Ok p → allowed H second ≡ Ok q → p.origin ≡ q.origin →
         endpoint_of p ≡ endpoint_of q }
-{
-}
+{}
 
 /// A host table that was read is sound: its MAC addresses have 48 bits, its names are names, and no two are
 /// equal.
 pub fn tables_are_sound()
     ensures { (text : List ℕ) (H : HostTable) → hosts_in text ≡ Ok H → IsSound H }
-{
-}
+{}
 
 /// The names of a host table that was read have only the bytes `a` to `z`, `0` to `9`, `-`, `.` and `_`.
 pub fn hosts_have_plain_names()
     ensures { (text : List ℕ) (H : HostTable) → hosts_in text ≡ Ok H → HasPlainNames H }
-{
-}
+{}

@@ -14,7 +14,7 @@ use std::marker::Model;
 use thiserror::Error;
 use url::{ParseError, Position, Url};
 
-/// Why a text is no page: the first rule that it breaks, or want of memory.
+/// Why a text is no page: the first rule that it breaks, or out of memory.
 #[derive(Clone, Copy, Debug, PartialEq, Eq, Error)]
 pub enum UrlFault {
     #[error("denied {} {}", .0.code(), .0.name())]
@@ -33,7 +33,7 @@ impl From<Memory> for UrlFault {
     }
 }
 
-// The most bytes of a serialized URL, and of an origin.
+// In bytes: of a serialized URL, and of an origin's text.
 const MAX_URL: usize = 1024;
 
 const MAX_ORIGIN: usize = 72;
@@ -65,15 +65,15 @@ impl Page {
         self.url.as_slice()
     }
 
-    /// The origin's text (RFC 6454, section 6.2): the scheme, `://`, the host, and `:` with the port where
-    /// it isn't the scheme's default. Two pages have one origin exactly where these texts are equal.
+    /// The serialized origin (RFC 6454, section 6.2). A port is written only where the scheme has another
+    /// by default, so two pages have one origin exactly where these texts are equal.
     pub fn origin(&self) -> &[u8]
         ensures { result.now ≡ self.now.origin }
     {
         self.origin.as_slice()
     }
 
-    /// Where the page's host is: its address in the host table, and the URL's port or the scheme's default.
+    /// Where the page is fetched from. It follows from the origin (`endpoints_follow_origins`).
     pub fn endpoint(&self) -> Endpoint
         ensures { result ≡ endpoint_of self.now }
     {
@@ -83,10 +83,17 @@ impl Page {
         }
     }
 
-    /// The page of a text, or the first rule that it breaks. The text is read by the URL Standard. U4: it
-    /// isn't UTF-8 or no URL. U5: its scheme is neither http nor https. U6: it has a user name or a
-    /// password. U7: its serialized URL has more than 1,024 bytes. U8: its origin has more than 72 bytes. U9:
-    /// its host isn't in the host table.
+    /// The page that a text names, read as an absolute URL (URL Standard, section 4.4), or the first of these
+    /// rules that it breaks:
+    ///
+    /// | Rule | asks of the text |
+    /// |---|---|
+    /// | U4 | to be UTF-8, and a URL |
+    /// | U5 | the scheme `http` or `https` |
+    /// | U6 | no user and no password |
+    /// | U7 | at most 1,024 bytes once serialized |
+    /// | U8 | at most 72 bytes of serialized origin |
+    /// | U9 | a host that the host table names |
     #[tactic(auto, unfolding(crate::specs::Pages::allowed))]
     pub fn read(alloc: Global, hosts: &Hosts, text: &[u8]) -> Result<Page, UrlFault>
         ensures { Gives result (allowed hosts.now text.now) }
@@ -134,7 +141,8 @@ impl Page {
 
 // The text, if the bytes are UTF-8.
 fn as_text(bytes: &[u8]) -> Option<&str>
-    ensures { MatchOption result (is_utf8 bytes.now ≡ false) (λ text. (is_utf8 bytes.now ≡ true) × (text.now ≡ bytes.now)) }
+    ensures { MatchOption result (is_utf8 bytes.now ≡ false)
+        (λ text. (is_utf8 bytes.now ≡ true) × (text.now ≡ bytes.now)) }
 {
     match std::str::from_utf8(bytes) {
         Ok(text) => Some(text),

@@ -113,7 +113,7 @@ line_by line = by_tests (nat_lt 8192 (length line)) (list_all is_printable line)
   where
     by_tests : (long printable none : Bool) → LineBy (party_in line) (if long then Err Long else if not printable then Err Byte else if none then Ok None else some_line (act_in (first_word line) (after_word line)))
     by_tests true printable none = tt
-    by_tests false false nothing = tt
+    by_tests false false none = tt
     by_tests false true true = tt
     by_tests false true false = some_by _ (act_in (first_word line) (after_word line)) (words_by (first_word line) (after_word line))
 

@@ -19,7 +19,8 @@ pub record Fields (A : Type 0) : Type 0 where
   pub reads : A → List ℕ → Result Line LineFault
 
 -- a field that was read, and then what follows from it
-abbrev pub read_field : {A : Type 0} → LineFault → Option A → (A → Result Line LineFault) → Result Line LineFault
+abbrev pub read_field : {A : Type 0} → LineFault → Option A → (A → Result Line LineFault)
+    → Result Line LineFault
 read_field fault None next = Err fault
 read_field fault (Some x) next = next x
 
@@ -35,7 +36,8 @@ rest = record { counts = λ line. true; reads = λ act line. Ok (ActLine (act (a
 abbrev pub field : {A B : Type 0} → LineFault → (List ℕ → Option B) → Fields A → Fields (B → A)
 field fault reader more = record {
   counts = λ line. has_word line && more.counts (after_word line);
-  reads = λ act line. read_field fault (reader (first_word line)) (λ x. more.reads (act x) (after_word line));
+  reads = λ act line.
+      read_field fault (reader (first_word line)) (λ x. more.reads (act x) (after_word line));
 }
 
 -- a tab
@@ -58,6 +60,9 @@ abbrev pub form : {A : Type 0} → Fields A → A → List ℕ → Result Line L
 form fields act line = if fields.counts line then fields.reads act line else Err Count
 
 -- the act of an instance, whose name is a word, with those fields
-abbrev pub form_of : {A : Type 0} → Fields A → (Instance → A) → List ℕ → List ℕ → Result Line LineFault
+abbrev pub form_of : {A : Type 0} → Fields A → (Instance → A) → List ℕ → List ℕ
+    → Result Line LineFault
 form_of fields act who line =
-    if fields.counts line then read_field Number (instance_in who) (λ who. fields.reads (act who) line) else Err Count
+    if fields.counts line
+    then read_field Number (instance_in who) (λ who. fields.reads (act who) line)
+    else Err Count

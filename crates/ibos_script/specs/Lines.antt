@@ -42,19 +42,24 @@ cookie_in side who command line =
 unfoldable pub page_in : List ℕ → List ℕ → List ℕ → Result Line LineFault
 page_in who command line =
     if is_word (codes "go") command then form_of rest Go who line
-    else if is_word (codes "draw") command then form_of (number (number (number (number (hex nothing))))) Draw who line
-    else if is_word (codes "cookie") command then cookie_in Page who (first_word line) (after_word line)
+    else if is_word (codes "draw") command
+    then form_of (number (number (number (number (hex nothing))))) Draw who line
+    else if is_word (codes "cookie") command
+    then cookie_in Page who (first_word line) (after_word line)
     else Err Word
 
 -- behind `net` and an instance's name
 unfoldable pub net_in : List ℕ → List ℕ → List ℕ → Result Line LineFault
 net_in who command line =
-    if is_word (codes "cookie") command then cookie_in Net who (first_word line) (after_word line)
+    if is_word (codes "cookie") command
+    then cookie_in Net who (first_word line) (after_word line)
     else Err Word
 
 -- behind an actor's kind and name
-abbrev pub named_in : (List ℕ → List ℕ → List ℕ → Result Line LineFault) → List ℕ → Result Line LineFault
-named_in next line = next (first_word line) (first_word (after_word line)) (after_word (after_word line))
+abbrev pub named_in : (List ℕ → List ℕ → List ℕ → Result Line LineFault) → List ℕ
+    → Result Line LineFault
+named_in next line =
+    next (first_word line) (first_word (after_word line)) (after_word (after_word line))
 
 -- the actor's kind, and what follows it
 unfoldable pub act_in : List ℕ → List ℕ → Result Line LineFault

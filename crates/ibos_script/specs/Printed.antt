@@ -60,7 +60,8 @@ items_text number items = flat_map (λ item. line_text number (item_text item)) 
 
 -- one line for the head, and then those of the items
 unfoldable pub outcome_text : ℕ → Outcome → List ℕ
-outcome_text number outcome = line_text (decimal number) (head_text outcome.head) ++ items_text (decimal number) outcome.items
+outcome_text number outcome =
+    line_text (decimal number) (head_text outcome.head) ++ items_text (decimal number) outcome.items
 
 -- pieces, one after another
 abbrev pub pieces_text : List (Bor (List ℕ)) → List ℕ

@@ -4,28 +4,28 @@ ghost use Rattle.ibos_script.specs.Faults.{number_of, name_of};
 
 use thiserror::Error;
 
-/// The first fault of a line, or want of memory.
+/// The first fault of a line, or out of memory.
 #[derive(Clone, Copy, Debug, PartialEq, Eq, Error)]
 pub enum LineFault {
     /// The line has more than 8,192 bytes.
     #[error("the line has more than 8,192 bytes")]
     Long,
-    /// A byte is outside 0x20 to 0x7E.
+    /// A byte isn't printable ASCII.
     #[error("a byte of the line is outside 0x20 to 0x7E")]
     Byte,
-    /// The words that name the actor and the command are none that there are, or one is missing.
-    #[error("the line names no actor and command")]
+    /// The first words name no actor with a command that it has.
+    #[error("the line names no actor with such a command")]
     Word,
-    /// The line has fewer words than its form, or more.
+    /// Words are missing, or too many.
     #[error("the line has too few words or too many")]
     Count,
-    /// A number or a name of an instance has not its form or range.
-    #[error("a number has not its form or range")]
+    /// A number, a key or an instance's name is malformed or out of range.
+    #[error("a number is malformed or out of range")]
     Number,
-    /// Bytes in hexadecimal digits have not their form.
-    #[error("hexadecimal digits have not their form")]
+    /// Hexadecimal bytes are malformed.
+    #[error("hexadecimal bytes are malformed")]
     Hex,
-    /// No memory was found. It is the one answer that does not follow from the line.
+    /// Out of memory: the one answer that does not follow from the line.
     #[error("out of memory")]
     Memory,
 }
@@ -42,7 +42,7 @@ impl From<ibos_kinds::Memory> for LineFault {
 }
 
 impl LineFault {
-    /// The fault's number, as a refusal prints it. Want of memory is never printed.
+    /// The fault's number, as a refusal prints it. Out of memory is never printed.
     pub fn number(self) -> u8
         requires { self ≢ LineFault.Memory }
         ensures { result ≡ number_of self }
@@ -58,7 +58,7 @@ impl LineFault {
         }
     }
 
-    /// The fault's name, as a refusal prints it. Want of memory is never printed.
+    /// The fault's name, as a refusal prints it. Out of memory is never printed.
     pub fn name(self) -> &'static str
         requires { self ≢ LineFault.Memory }
         ensures { result.now ≡ name_of self }

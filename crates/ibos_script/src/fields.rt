@@ -12,7 +12,7 @@ use std::alloc::Global;
 
 const MAX_DIGITS: usize = 10;
 
-/// A decimal number of 1 to 10 digits, leading zeros among them, that is below the bound.
+/// A decimal number below the bound. Leading zeros count among its digits, of which there are at most ten.
 #[tactic(auto, unfolding(crate::specs::Fields::number_in))]
 pub fn read_number(bound: u64, word: &[u8]) -> Option<u64>
     ensures number { result ≡ number_in bound word.now }
@@ -28,7 +28,9 @@ pub fn read_number(bound: u64, word: &[u8]) -> Option<u64>
 // The value of a word, if its bytes are decimal digits.
 fn value_of(word: &[u8]) -> Option<u64>
     requires few { length word.now ≤ 10 }
-    ensures { MatchOption result (list_all is_digit word.now ≡ false) (λ value. (list_all is_digit word.now ≡ true) × (value ≡ spec.value_of word.now)) }
+    ensures digits { MatchOption result (list_all is_digit word.now ≡ false)
+        (λ _. list_all is_digit word.now ≡ true) }
+    ensures value { IfSome result (λ value. value ≡ spec.value_of word.now) }
 {
     let mut value = 0u64;
     for b in word {
@@ -40,7 +42,7 @@ fn value_of(word: &[u8]) -> Option<u64>
     Some(value)
 }
 
-/// A page instance: its tab below 64, a dot, and its ordinal below 32.
+/// A page instance, as in `63.31`.
 #[tactic(auto, unfolding(crate::specs::Fields::instance_in))]
 pub fn read_instance(word: &[u8]) -> Option<Instance>
     ensures instance { result ≡ instance_in word.now }
@@ -62,7 +64,7 @@ pub fn read_instance(word: &[u8]) -> Option<Instance>
     })
 }
 
-/// A key: `enter`, `back`, or the two hexadecimal digits of the byte that it writes.
+/// A key: its name, or the byte that it writes in hexadecimal.
 #[tactic(auto, unfolding(crate::specs::Fields::key_in))]
 pub fn read_key(word: &[u8]) -> Option<Key>
     ensures key { result ≡ key_in word.now }
@@ -86,7 +88,7 @@ pub fn read_key(word: &[u8]) -> Option<Key>
     }
 }
 
-/// Bytes: two hexadecimal digits for each, or `-` for none. None where the word has not this form.
+/// Bytes in hexadecimal, `-` for none. None where the word is malformed.
 #[tactic(auto, unfolding(crate::specs::Fields::hex_in))]
 pub fn read_hex(alloc: Global, word: &[u8]) -> Result<Option<Bytes>, Memory>
     ensures { IfOk result (λ bytes. bytes ≡ hex_in word.now) }

@@ -7,6 +7,6 @@ ghost use Rattle.ibos_script.specs.Lines.{line_in, party_in};
 
 /// A line that says an act begins with the words that name the act's actor.
 pub fn lines_name_their_actor()
-    ensures { (line : List ℕ) (act : Act) → line_in line ≡ Ok (Some (ActLine act)) → party_in line ≡ Some (actor act) }
-{
-}
+    ensures { (line : List ℕ) (act : Act) → line_in line ≡ Ok (Some (ActLine act)) →
+        party_in line ≡ Some (actor act) }
+{}

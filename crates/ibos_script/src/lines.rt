@@ -14,10 +14,10 @@ use ibos_kinds::{Act, Bytes, Memory, Side};
 use ibos_text::{next_word, skip_spaces};
 use std::alloc::Global;
 
-/// The longest line, in bytes.
+// In bytes, without the line's end.
 const MAX_LINE: usize = 8192;
 
-/// Numbers but for tabs and ordinals are below this.
+// Numbers but for those of instances are below this.
 const BOUND: u64 = 1 << 32;
 
 /// What a line of a script asks for.
@@ -27,22 +27,21 @@ pub enum Line {
     Act(Act),
 }
 
-/// Reads a line of a script, given without its end.
+/// Reads a line of a script, given without its end: an act, or None for a comment or a blank line.
 ///
-/// A line that is empty, has spaces alone or begins with `#` asks for nothing. Any other is one of
+/// | Line | Act |
+/// |---|---|
+/// | `user open T URL` | `Start` |
+/// | `user switch T`, `user close T` | `Switch`, `Close` |
+/// | `user key K`, `user click ROW COL`, `user look` | `Press`, `Click`, `Look` |
+/// | `page T.N go URL` | `Go` |
+/// | `page T.N draw ROW COL HEIGHT WIDTH HEX` | `Draw` |
+/// | `page T.N cookie set TEXT`, `net T.N cookie set TEXT` | `CookieSet` |
+/// | `page T.N cookie get`, `net T.N cookie get` | `CookieGet` |
 ///
-/// - `user open T URL`
-/// - `user switch T` and `user close T`
-/// - `user key K`, `user click ROW COL` and `user look`
-/// - `page T.N go URL`
-/// - `page T.N draw ROW COL HEIGHT WIDTH HEX`
-/// - `page T.N cookie set TEXT` and `net T.N cookie set TEXT`
-/// - `page T.N cookie get` and `net T.N cookie get`
-///
-/// whose words are parted by one or more spaces. T is a decimal number below 64, N one below 32, and
-/// ROW, COL, HEIGHT and WIDTH are below 2^32; each has 1 to 10 digits. K is `enter`, `back` or two
-/// hexadecimal digits from 20 to 7e. HEX has two hexadecimal digits for each byte, or is `-`. URL and
-/// TEXT are the rest of the line after the spaces that follow the word before, and may be empty.
+/// T (below 64), N (below 32), ROW, COL, HEIGHT and WIDTH (below 2^32) are decimal, in at most ten digits. K
+/// is `enter`, `back` or a printable byte in hexadecimal, HEX any number of bytes in hexadecimal, `-` for
+/// none. URL and TEXT take what is left of the line.
 #[tactic(auto, unfolding(crate::specs::Lines::line_in))]
 pub fn read_line(alloc: Global, line: &[u8]) -> Result<Option<Line>, LineFault>
     ensures line { Gives result (line_in line.now) }
@@ -255,7 +254,8 @@ fn read_look(line: &[u8]) -> Result<Line, LineFault>
 }
 
 fn read_draw(alloc: Global, who: &[u8], line: &[u8]) -> Result<Line, LineFault>
-    ensures line { Gives result (form_of (number (number (number (number (hex nothing))))) Draw who.now line.now) }
+    ensures line { Gives result
+        (form_of (number (number (number (number (hex nothing))))) Draw who.now line.now) }
     ensures fits { IfOk result LineFits }
 {
     let (row, rest) = take_word(line)?;
@@ -338,7 +338,8 @@ fn split_word(line: &[u8]) -> (&[u8], &[u8])
 
 // The first word of a line that must have one, and the rest after it.
 fn take_word(line: &[u8]) -> Result<(&[u8], &[u8]), LineFault>
-    ensures has { MatchResult result (λ _. has_word line.now ≡ true) (λ fault. (has_word line.now ≡ false) × (fault ≡ LineFault.Count)) }
+    ensures has { MatchResult result (λ _. has_word line.now ≡ true)
+        (λ fault. (has_word line.now ≡ false) × (fault ≡ LineFault.Count)) }
     ensures word { IfOk result (λ found. found.0.now ≡ first_word line.now) }
     ensures rest { IfOk result (λ found. found.1.now ≡ after_word line.now) }
 {
@@ -350,7 +351,8 @@ fn take_word(line: &[u8]) -> Result<(&[u8], &[u8]), LineFault>
 
 // A line that must have no word.
 fn end_line(line: &[u8]) -> Result<(), LineFault>
-    ensures { MatchResult result (λ _. has_word line.now ≡ false) (λ fault. (has_word line.now ≡ true) × (fault ≡ LineFault.Count)) }
+    ensures { MatchResult result (λ _. has_word line.now ≡ false)
+        (λ fault. (has_word line.now ≡ true) × (fault ≡ LineFault.Count)) }
 {
     match next_word(line) {
         Some(_) => Err(LineFault::Count),

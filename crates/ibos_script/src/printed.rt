@@ -9,7 +9,7 @@ use itoa::Buffer;
 use std::alloc::Global;
 
 /// Appends the lines of an outcome, each with the act's number: one for its head, and one for each
-/// item. After want of memory a front of these lines is appended.
+/// item. Where memory runs out a front of these lines is appended.
 #[tactic(auto, unfolding(crate::specs::Printed::outcome_text))]
 pub fn write_outcome(
     _alloc: Global,
@@ -134,7 +134,8 @@ fn write_click(
     text: &mut Bytes,
 ) -> Result<(), Memory>
     ensures { Appends result text.old text.new
-        (line_text digits.now (spec.instance_text who ++ codes " click " ++ decimal row ++ codes " " ++ decimal col)) }
+        (line_text digits.now (spec.instance_text who ++ codes " click "
+        ++ decimal row ++ codes " " ++ decimal col)) }
 {
     let mut tab = Buffer::new();
     let mut ord = Buffer::new();
@@ -158,7 +159,8 @@ fn write_cell<'a>(
     text: &mut Bytes,
 ) -> Result<(), Memory>
     ensures { Appends result text.old text.new
-        (line_text digits.now ((tab.now ++ codes "." ++ ord.now) ++ word.now ++ row.now ++ codes " " ++ col.now)) }
+        (line_text digits.now ((tab.now ++ codes "." ++ ord.now)
+        ++ word.now ++ row.now ++ codes " " ++ col.now)) }
 {
     push_pieces(
         text,

@@ -4,7 +4,7 @@ use std::alloc::Global;
 use std::process::Abort;
 use std::test::Fail;
 
-const LONGEST: usize = 8192;
+const MAX_LINE: usize = 8192;
 
 fn bytes(alloc: Global, text: &[u8]) -> Result<Bytes, Memory> {
     let mut bytes = Bytes::new(alloc);
@@ -230,11 +230,11 @@ fn lines_are_passed_over_up_to_the_longest(rt: HostRuntime) -> Result<(), Fail> 
     ] {
         assert!(rt; read_line(alloc, line) == Ok(None));
     }
-    let longest = vec![in alloc; b'#'; LONGEST]?;
+    let longest = vec![in alloc; b'#'; MAX_LINE]?;
     assert!(rt; read_line(alloc, &longest) == Ok(None));
-    let longer = vec![in alloc; b'#'; LONGEST + 1]?;
+    let longer = vec![in alloc; b'#'; MAX_LINE + 1]?;
     assert!(rt; read_line(alloc, &longer) == Err(LineFault::Long));
-    let control = vec![in alloc; 0x1f; LONGEST + 1]?;
+    let control = vec![in alloc; 0x1f; MAX_LINE + 1]?;
     assert!(rt; read_line(alloc, &control) == Err(LineFault::Long));
     Ok(())
 }

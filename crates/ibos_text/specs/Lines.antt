@@ -13,7 +13,8 @@ pieces_of (b ∷ bytes) = if b == 10 then [] ∷ pieces_of bytes else onto_first
 
 -- without one 0x0D at the end
 abbrev pub without_return : List ℕ → List ℕ
-without_return piece = if slice_index piece (length piece - 1) == 13 then take (length piece - 1) piece else piece
+without_return piece =
+    if slice_index piece (length piece - 1) == 13 then take (length piece - 1) piece else piece
 
 -- the lines of a text: each ends at a 0x0A or with the text, and loses one 0x0D just before its end
 unfoldable pub lines_of : List ℕ → List (List ℕ)

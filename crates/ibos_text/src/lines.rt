@@ -5,10 +5,11 @@ ghost use Rattle.ibos_text.specs.Lines.{lines_of};
 
 use memchr::memchr;
 
-/// The first line of a text, without its end, and the text after that end. None exactly where the text is
-/// empty. A line ends at a byte 0x0A or with the text; one 0x0D just before that is part of the end.
+/// The first line of a text, and what follows the line's end: 0x0A, 0x0D 0x0A, or that of the text, before
+/// which one 0x0D counts too. None exactly where the text is empty.
 pub fn next_line(text: &[u8]) -> Option<(&[u8], &[u8])>
-    ensures first { MatchOption result (text.now ≡ []) (λ found. lines_of text.now ≡ found.0.now ∷ lines_of found.1.now) }
+    ensures first { MatchOption result (text.now ≡ [])
+        (λ found. lines_of text.now ≡ found.0.now ∷ lines_of found.1.now) }
     ensures shorter { IfSome result (λ found. length found.1.now < length text.now) }
 {
     if text.is_empty() {
