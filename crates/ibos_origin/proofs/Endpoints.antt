@@ -1,10 +1,9 @@
 -- Where a page is follows from its origin.
-use Rattle.std.proofs.Common.{◌≡◌, ℕ, ◌+◌, ◌<◌, ◌++◌, List, [], ◌∷◌, Bool, true, false, not, cond, Option, Some, None, Ok, Err, Result, length, take, drop, refl, sym, ◌∙◌, ap, subst, arith}
-use Rattle.std.specs.Prelude.{◌^◌, ◌&&◌, ◌==◌, nat_lt, length, if◌then◌else◌, option_map, unwrap_or, codes, decimal, IfOk}
+use Rattle.std.proofs.Common.{◌≡◌, ℕ, ◌+◌, ◌++◌, List, [], ◌∷◌, Bool, true, false, not, cond, Option, Some, None, Ok, Err, Result, length, take, drop, refl, sym, ◌∙◌, ap, subst, arith}
+use Rattle.std.specs.Prelude.{◌&&◌, ◌==◌, nat_lt, length, if◌then◌else◌, option_map, unwrap_or, codes, IfOk}
 use Rattle.std.specs.List.{list_all}
 use Rattle.std.specs.Option.{option_or}
 use Rattle.std.specs.Str.{is_utf8}
-use Rattle.std.specs.Str.Parse.{digits_value}
 use Rattle.std.proofs.Math.Seq.{take-append_seam, drop-append_seam}
 use Rattle.std.proofs.lemmas.Bool.Decides.{nat_tests}
 use Rattle.std.proofs.lemmas.Fmt.{decimal_is_IsNumeral}
@@ -17,7 +16,7 @@ use Rattle.url.specs.Scheme.{default_port}
 use Rattle.url.specs.Origin.{is_http}
 use Rattle.ibos_kinds.specs.declared.names.Endpoint.{Endpoint}
 use Rattle.ibos_kinds.specs.declared.rule.Rule.{Rule}
-use Rattle.ibos_kinds.specs.declared.rule.Rule.TheVariants.{U4, U5, U6, U7, U8, U9}
+use Rattle.ibos_kinds.specs.declared.rule.Rule.TheVariants.{U4, U5, U6, U7, U8}
 use Rattle.ibos_text.specs.Parts.{len_before}
 use Rattle.ibos_origin.specs.Hosts.{HostTable, address_of}
 use Rattle.ibos_origin.specs.HostLines.{is_name_byte}

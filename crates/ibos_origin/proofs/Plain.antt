@@ -1,7 +1,7 @@
 -- The origins of allowed URLs are printable.
-use Rattle.std.proofs.Common.{◌≡◌, ◌≢◌, ℕ, ◌<◌, ◌≤◌, ◌+◌, ◌++◌, List, [], ◌∷◌, Bool, true, false, not, Option, Some, None, Ok, Err, Result, refl, sym, ◌∙◌, ap, subst, arith}
-use Rattle.std.specs.Prelude.{◌^◌, ◌&&◌, ◌||◌, ◌==◌, nat_eq, nat_lt, nat_le, length, if◌then◌else◌, is_some, option_map, unwrap_or, codes, decimal, bytes_eq, find, fold, IfOk}
-use Rattle.std.specs.List.{list_all, All}
+use Rattle.std.proofs.Common.{◌≡◌, ℕ, ◌<◌, ◌++◌, List, [], ◌∷◌, Bool, true, false, not, Option, Some, None, Ok, Err, Result, refl, ◌∙◌, ap, subst, arith}
+use Rattle.std.specs.Prelude.{◌^◌, ◌&&◌, nat_lt, length, if◌then◌else◌, option_map, unwrap_or, codes, decimal, bytes_eq, find, IfOk}
+use Rattle.std.specs.List.{list_all}
 use Rattle.std.specs.Int.{IsInRange}
 use Rattle.std.specs.Str.{is_utf8}
 use Rattle.std.proofs.lemmas.Bool.Decides.{nat_tests}
@@ -11,22 +11,17 @@ use Rattle.std.proofs.lemmas.List.Elements.{All-weaker}
 use Rattle.url.specs.declared.host.Host.{Host as UrlHost}
 use Rattle.url.specs.declared.host.Host.TheVariants.{Domain}
 use Rattle.url.specs.Host.{host_text}
-use Rattle.url.specs.Parts.{Parts, has_credentials, has_host, host_or_empty, nonempty_host, serialize}
+use Rattle.url.specs.Parts.{Parts, has_credentials, has_host, host_or_empty, serialize}
 use Rattle.url.specs.Parser.{Parsed, parse_url}
 use Rattle.url.specs.Origin.{is_http}
 use Rattle.url.proofs.HostRoundTrip.{All-decimal}
 use Rattle.url.proofs.InputLemmas.{Passes, list_all_from_All}
 use Rattle.ibos_kinds.specs.Screens.{is_pixel}
 use Rattle.ibos_kinds.specs.declared.rule.Rule.{Rule}
-use Rattle.ibos_kinds.specs.declared.rule.Rule.TheVariants.{U4, U5, U6, U7, U8, U9}
-use Rattle.ibos_origin.specs.declared.fault.HostFault.{HostFault}
-use Rattle.ibos_origin.specs.declared.fault.HostFault.TheVariants.{Form, Twice, Many, NoSelf, TooLong}
+use Rattle.ibos_kinds.specs.declared.rule.Rule.TheVariants.{U4, U5, U6, U7, U8}
 use Rattle.ibos_origin.specs.Hosts.{Host, HostTable, address_of}
-use Rattle.ibos_origin.specs.Addresses.{addr_in, mac_in}
-use Rattle.ibos_text.specs.Words.{words_of}
-use Rattle.ibos_text.specs.Lines.{lines_of}
-use Rattle.ibos_origin.specs.HostLines.{HostLine, Nothing, Own, Gateway, Named, is_name_byte, is_name, is_passed_over, own_of, own_in, gateway_in, named_in, host_line_by, host_line_in}
-use Rattle.ibos_origin.specs.Tables.{HasPlainNames, PartialTable, nothing_read, with_host_line, at_line, with_line, table_with, table_of, hosts_in}
+use Rattle.ibos_origin.specs.HostLines.{is_name_byte}
+use Rattle.ibos_origin.specs.Tables.{HasPlainNames}
 use Rattle.ibos_origin.specs.Pages.{Page, origin_text, page_at, address_at, host_of, allowed_url, allowed_parsed, allowed}
 use Rattle.ibos_origin.proofs.Begins.{IsSmall, IsWeb, Suits, by_web, reads_url, port_text, origin_spelled}
 

@@ -1,10 +1,9 @@
 -- A host table that was read is sound.
 use Rattle.std.proofs.Math.Nat.{pow-suc}
-use Rattle.std.proofs.Common.{◌≡◌, ℕ, add-one, ◌<◌, ◌≤◌, ◌+◌, ◌*◌, ◌++◌, List, [], ◌∷◌, Bool, true, false, not, Option, Some, None, Ok, Err, Result, refl, sym, ◌∙◌, ap, subst, arith}
+use Rattle.std.proofs.Common.{◌≡◌, ℕ, add-one, ◌<◌, ◌+◌, ◌*◌, ◌++◌, List, [], ◌∷◌, Bool, true, false, Option, Some, None, Ok, Err, Result, refl, ◌∙◌, ap, subst, arith}
 use Rattle.std.specs.Prelude.{◌^◌, ◌&&◌, ◌==◌, nat_lt, nat_le, length, map, if◌then◌else◌, is_some, option_map, codes, bytes_eq, find, fold, IfOk, IfSome}
 use Rattle.std.specs.List.{list_all, IsDistinct, AllByRecursion}
 use Rattle.std.specs.Str.Parse.{digits_value, AllDigits}
-use Rattle.std.specs.Char.{is_digit, digit_value}
 use Rattle.std.proofs.lemmas.Bool.Decides.{nat_tests}
 use Rattle.std.proofs.lemmas.Int.Digits.{digits_value-lt}
 use Rattle.std.proofs.lemmas.List.Folds.{list_all-append}
@@ -12,11 +11,11 @@ use Rattle.ibos_text.specs.Lines.{lines_of}
 use Rattle.ibos_text.specs.Words.{words_of}
 use Rattle.ibos_text.specs.Parts.{parts_of}
 use Rattle.ibos_origin.specs.declared.fault.HostFault.{HostFault}
-use Rattle.ibos_origin.specs.declared.fault.HostFault.TheVariants.{Form, Twice, Many, NoSelf, TooLong}
+use Rattle.ibos_origin.specs.declared.fault.HostFault.TheVariants.{Twice, Many, TooLong}
 use Rattle.ibos_origin.specs.Hosts.{Host, HostTable, address_of, host_of, names_of}
 use Rattle.ibos_origin.specs.Addresses.{addr_in, mac_in, is_pair}
 use Rattle.ibos_origin.specs.HostLines.{HostLine, Nothing, Own, Gateway, Named, is_name_byte, is_name, is_passed_over, own_of, own_in, gateway_in, named_in, host_line_by, host_line_in}
-use Rattle.ibos_origin.specs.Tables.{HasPlainNames, IsSound, PartialTable, nothing_read, with_host_line, at_line, with_line, table_with, table_of, hosts_in}
+use Rattle.ibos_origin.specs.Tables.{IsSound, PartialTable, nothing_read, with_host_line, at_line, with_line, table_with, table_of, hosts_in}
 
 -- ---- MAC addresses
 

@@ -1,5 +1,5 @@
 -- The party that a line names is the actor of its act.
-use Rattle.std.proofs.Common.{◌≡◌, ℕ, List, Bool, true, false, Option, Some, None, Ok, Err, Result, refl, sym, ap, subst, ◌∙◌}
+use Rattle.std.proofs.Common.{◌≡◌, ℕ, List, Bool, true, false, Option, Some, None, Ok, Err, Result, refl, ap, subst}
 use Rattle.std.specs.Prelude.{if◌then◌else◌, option_map, not, nat_lt, ◌||◌, length, codes}
 use Rattle.std.specs.List.{list_all}
 use Rattle.ibos_kinds.specs.declared.act.Act.{Act}

@@ -1,4 +1,4 @@
-use Rattle.std.proofs.Common.{◌≢◌, ◌≤◌, [], length, arith, ap}
+use Rattle.std.proofs.Common.{◌≢◌, [], length, arith, ap}
 use Rattle.std.proofs.lemmas.Bool.Decides.{nat_tests}
 use Rattle.ibos_text.proofs.LineCuts.{found_end, found_no_end, lines_of-last, lines_of-ended}
 use Rattle.ibos_text.proofs.lines.next_line.Goals as goal

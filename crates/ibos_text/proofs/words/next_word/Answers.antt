@@ -1,7 +1,7 @@
 use Rattle.std.proofs.Common.{◌≡◌, ◌<◌, ◌∙◌, length, arith, ap, sym, refl}
 use Rattle.std.proofs.lemmas.Bool.Decides.{nat_tests}
 use Rattle.std.proofs.lemmas.Bool.{cases_lt}
-use Rattle.ibos_text.specs.Words.{words_of, has_word, first_word, after_word}
+use Rattle.ibos_text.specs.Words.{words_of, first_word, after_word}
 use Rattle.ibos_text.proofs.WordCuts.{words_of-after_spaces, words_of-front, front_of-after_spaces, words_of-none, has_word-after_spaces, no_word}
 use Rattle.ibos_text.proofs.words.next_word.Goals as goal
 
