@@ -23,8 +23,8 @@ use Rattle.ibos_origin.specs.HostLines.{is_name_byte}
 use Rattle.ibos_origin.specs.Tables.{HasPlainNames}
 use Rattle.ibos_origin.specs.Pages.{Page, endpoint_of, origin_text, port_of, page_at, address_at, host_of, allowed_url, allowed_parsed, allowed}
 use Rattle.ibos_origin.specs.Endpoints.{port_behind, endpoint_behind, origin_endpoint}
-use Rattle.ibos_origin.proofs.Begins.{IsSmall, IsWeb, Suits, by_web, reads_url, port_text, origin_spelled}
-use Rattle.ibos_origin.proofs.Plain.{found_plain}
+use Rattle.ibos_origin.proofs.UrlFronts.{IsSmall, IsWeb, Suits, by_web, reads_url, port_text, origin_spelled}
+use Rattle.ibos_origin.proofs.OriginTexts.{found_plain}
 
 -- ---- texts of origins
 

@@ -1,8 +1,8 @@
-mod Named
+mod HostNames
 mod Macs
-mod Dotted
-mod Sound
-mod Tabled
-mod Begins
-mod Plain
+mod Ipv4Texts
+mod SoundTables
+mod TableLines
+mod UrlFronts
+mod OriginTexts
 mod Endpoints

@@ -1,3 +1,3 @@
-mod Cuts
-mod Pieces
+mod CutTexts
+mod CellLines
 mod Actors

@@ -1,5 +1,5 @@
 use Rattle.std.proofs.Common.{Some, ap, ◌∙◌}
-use Rattle.ibos_origin.proofs.Dotted.{addr_in-spelled, addr_in-other}
+use Rattle.ibos_origin.proofs.Ipv4Texts.{addr_in-spelled, addr_in-other}
 use Rattle.ibos_origin.proofs.addresses.addr_in.Goals as goal
 
 pub returns-in-Ok : goal.returns-in-Ok

@@ -1,4 +1,4 @@
-use Rattle.ibos_origin.proofs.Sound.{tables_are_sound}
+use Rattle.ibos_origin.proofs.SoundTables.{tables_are_sound}
 use Rattle.ibos_origin.proofs.laws.hosts_have_plain_names.Goals as goal
 
 pub returns : goal.returns

@@ -1,4 +1,4 @@
-use Rattle.ibos_origin.proofs.Plain.{origins_are_plain}
+use Rattle.ibos_origin.proofs.OriginTexts.{origins_are_plain}
 use Rattle.ibos_origin.proofs.laws.origins_are_printable.Goals as goal
 
 pub returns : goal.returns

@@ -1,4 +1,4 @@
-use Rattle.ibos_origin.proofs.Sound as sound
+use Rattle.ibos_origin.proofs.SoundTables as sound
 use Rattle.ibos_origin.proofs.laws.tables_are_sound.Goals as goal
 
 pub returns : goal.returns

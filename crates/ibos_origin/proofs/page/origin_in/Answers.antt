@@ -1,5 +1,5 @@
 use Rattle.std.proofs.Common.{◌∙◌}
-use Rattle.ibos_origin.proofs.Begins.{origin_fronts}
+use Rattle.ibos_origin.proofs.UrlFronts.{origin_fronts}
 use Rattle.ibos_origin.proofs.page.origin_in.Goals as goal
 
 pub returns : goal.returns

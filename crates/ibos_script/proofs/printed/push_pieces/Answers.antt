@@ -1,6 +1,6 @@
 use Rattle.std.proofs.Common.{◌∙◌, ℕ, List, Bor}
 use Rattle.std.proofs.lemmas.Result.{err_from_is_err_and}
-use Rattle.ibos_script.proofs.Cuts.{IsCutShort-pieces}
+use Rattle.ibos_script.proofs.CutTexts.{IsCutShort-pieces}
 use Rattle.ibos_script.proofs.printed.push_pieces.Goals as goal
 
 pub returns-in_err-push_slice : goal.returns-in_err-push_slice

@@ -1,6 +1,6 @@
 use Rattle.std.proofs.Common.{ℕ, List, subst}
 use Rattle.ibos_script.specs.Printed.{Appends}
-use Rattle.ibos_script.proofs.Pieces.{cell_spelled}
+use Rattle.ibos_script.proofs.CellLines.{cell_spelled}
 use Rattle.ibos_script.proofs.printed.write_cell.Goals as goal
 
 pub returns : goal.returns

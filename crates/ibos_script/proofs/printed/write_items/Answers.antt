@@ -2,7 +2,7 @@ use Rattle.std.proofs.Common.{ℕ, List, subst}
 use Rattle.ibos_kinds.specs.declared.outcome.Item.{Item}
 use Rattle.ibos_script.specs.Printed.{line_text, item_text, IsCutShort}
 use Rattle.std.proofs.lemmas.Result.{err_from_is_err_and}
-use Rattle.ibos_script.proofs.Cuts.{IsCutShort-in_piece}
+use Rattle.ibos_script.proofs.CutTexts.{IsCutShort-in_piece}
 use Rattle.ibos_script.proofs.printed.write_items.Goals as goal
 
 pub returns-in_err-write_item : goal.returns-in_err-write_item

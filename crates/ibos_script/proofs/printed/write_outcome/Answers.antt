@@ -2,7 +2,7 @@ use Rattle.std.proofs.Common.{◌≡◌, ℕ, List, ◌++◌, ◌∙◌, subst}
 use Rattle.std.specs.Prelude.{decimal}
 use Rattle.std.proofs.lemmas.Result.{err_from_is_err_and}
 use Rattle.ibos_script.specs.Printed.{IsCutShort, outcome_text, line_text, head_text, items_text}
-use Rattle.ibos_script.proofs.Cuts.{IsCutShort-second}
+use Rattle.ibos_script.proofs.CutTexts.{IsCutShort-second}
 use Rattle.ibos_script.proofs.printed.write_outcome.Goals as goal
 
 pub returns-in_err-write_items-clause-err : goal.returns-in_err-write_items-clause-err

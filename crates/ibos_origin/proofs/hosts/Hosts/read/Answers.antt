@@ -1,7 +1,7 @@
 use Rattle.std.proofs.Common.{◌∙◌, arith, subst, sym}
 use Rattle.ibos_origin.specs.Reads.{Refuses}
-use Rattle.ibos_origin.proofs.Sound.{tables_are_sound}
-use Rattle.ibos_origin.proofs.Tabled.{refused_at, refused_by, table_read}
+use Rattle.ibos_origin.proofs.SoundTables.{tables_are_sound}
+use Rattle.ibos_origin.proofs.TableLines.{refused_at, refused_by, table_read}
 use Rattle.ibos_origin.proofs.hosts.Hosts.read.Goals as goal
 
 pub returns-in_err-read_line : goal.returns-in_err-read_line

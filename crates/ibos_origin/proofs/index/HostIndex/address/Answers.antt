@@ -1,6 +1,6 @@
 use Rattle.std.proofs.Common.{ap, ◌∙◌}
 use Rattle.ibos_origin.specs.Hosts.{address_of}
-use Rattle.ibos_origin.proofs.Named.{lookup_named}
+use Rattle.ibos_origin.proofs.HostNames.{lookup_named}
 use Rattle.ibos_origin.proofs.index.HostIndex.address.Goals as goal
 
 pub returns : goal.returns

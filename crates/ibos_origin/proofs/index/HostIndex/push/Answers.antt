@@ -4,7 +4,7 @@ use Rattle.std.specs.Map.{lookup}
 use Rattle.indexmap.proofs.CallerLemmas.{insert_entry-new}
 use Rattle.ibos_origin.specs.Hosts.{address_of}
 use Rattle.ibos_origin.specs.Index.{named_hosts}
-use Rattle.ibos_origin.proofs.Named.{lookup_named, named_hosts-push}
+use Rattle.ibos_origin.proofs.HostNames.{lookup_named, named_hosts-push}
 use Rattle.ibos_origin.proofs.index.HostIndex.push.Goals as goal
 
 pub returns-clause-ok : goal.returns-clause-ok

@@ -23,7 +23,7 @@ use Rattle.ibos_origin.specs.Hosts.{Host, HostTable, address_of}
 use Rattle.ibos_origin.specs.HostLines.{is_name_byte}
 use Rattle.ibos_origin.specs.Tables.{HasPlainNames}
 use Rattle.ibos_origin.specs.Pages.{Page, origin_text, page_at, address_at, host_of, allowed_url, allowed_parsed, allowed}
-use Rattle.ibos_origin.proofs.Begins.{IsSmall, IsWeb, Suits, by_web, reads_url, port_text, origin_spelled}
+use Rattle.ibos_origin.proofs.UrlFronts.{IsSmall, IsWeb, Suits, by_web, reads_url, port_text, origin_spelled}
 
 abbrev Plain : List Host → Type 0
 Plain hosts = list_all (λ host. list_all is_name_byte host.name) hosts ≡ true
