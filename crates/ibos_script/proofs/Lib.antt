@@ -1,3 +1,6 @@
 mod CutTexts
 mod CellLines
 mod Actors
+mod Words
+mod FieldWords
+mod SpelledActs

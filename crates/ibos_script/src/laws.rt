@@ -1,12 +1,20 @@
 //! Laws of lines.
-ghost use Rattle.std.specs.Prelude.{◌≡◌, List, ℕ, Ok, Some};
+ghost use Rattle.std.specs.Prelude.{◌≡◌, ◌≤◌, List, ℕ, length, Ok, Some};
+ghost use Rattle.ibos_kinds.specs.Limits.{Fits};
 ghost use Rattle.ibos_kinds.specs.declared.act.Act.{Act};
 ghost use Rattle.ibos_kinds.specs.Parties.{actor};
 ghost use Rattle.ibos_script.specs.declared.lines.Line.TheVariants.{Act as ActLine};
 ghost use Rattle.ibos_script.specs.Lines.{line_in, party_in};
+ghost use Rattle.ibos_script.specs.Spelled.{IsSpellable, spelled};
 
 /// A line that says an act begins with the words that name the act's actor.
 pub fn lines_name_their_actor()
     ensures { (line : List ℕ) (act : Act) → line_in line ≡ Ok (Some (ActLine act)) →
         party_in line ≡ Some (actor act) }
+{}
+
+/// An act that is written as a line is read as that act, if the line isn't too long.
+pub fn spelled_acts_are_read()
+    ensures { (act : Act) → Fits act → IsSpellable act → length (spelled act) ≤ 8192 →
+        line_in (spelled act) ≡ Ok (Some (ActLine act)) }
 {}

@@ -8,7 +8,7 @@ mod lines;
 mod printed;
 
 pub use fault::LineFault;
-pub use laws::lines_name_their_actor;
+pub use laws::{lines_name_their_actor, spelled_acts_are_read};
 pub use lines::{Line, read_line};
 pub use printed::write_outcome;
 

@@ -1,0 +1,209 @@
+-- The line that spells an act reads as that act.
+use Rattle.std.proofs.Common.{◌≡◌, ℕ, ◌<◌, ◌≤◌, List, [], ◌∷◌, ◌++◌, Bool, true, false, not, length, Some, None, Option, Ok, Err, Result, refl, ◌∙◌, ap, subst, arith}
+use Rattle.std.specs.Prelude.{◌^◌, ◌||◌, nat_lt, codes, decimal, if◌then◌else◌}
+use Rattle.std.specs.List.{list_all}
+use Rattle.std.proofs.lemmas.Bool.Decides.{nat_tests}
+use Rattle.std.proofs.lemmas.List.{append-nil}
+use Rattle.std.proofs.lemmas.List.Folds.{list_all-append}
+use Rattle.ibos_kinds.specs.declared.act.Act.{Act}
+use Rattle.ibos_kinds.specs.declared.act.Act.TheVariants.{Start, Switch, Close, Press, Click, Look, Go, Draw, CookieSet, CookieGet}
+use Rattle.ibos_kinds.specs.declared.names.Instance.{Instance}
+use Rattle.ibos_kinds.specs.declared.names.Side.{Side}
+use Rattle.ibos_kinds.specs.declared.names.Side.TheVariants.{Page, Net}
+use Rattle.ibos_kinds.specs.Limits.{Fits, IsNamed}
+use Rattle.ibos_text.specs.Parts.{len_before}
+use Rattle.ibos_text.specs.Words.{first_word, after_word, has_word}
+use Rattle.ibos_script.specs.declared.fault.LineFault.{LineFault}
+use Rattle.ibos_script.specs.declared.fault.LineFault.TheVariants.{Long, Byte, Number, Hex}
+use Rattle.ibos_script.specs.declared.lines.Line.{Line}
+use Rattle.ibos_script.specs.declared.lines.Line.TheVariants.{Act as ActLine}
+use Rattle.ibos_script.specs.Fields.{number_in, key_in, hex_in}
+use Rattle.ibos_script.specs.Forms.{Fields, nothing, rest, field, tab, number, key, hex, form, form_of}
+use Rattle.ibos_script.specs.Lines.{user_in, cookie_in, page_in, net_in, act_in, is_printable, is_comment, some_line, line_in}
+use Rattle.ibos_script.specs.Printed.{instance_text}
+use Rattle.ibos_script.specs.Spelled.{key_text, side_text, hex_text, spelled, IsRest, IsSpellable}
+use Rattle.ibos_script.proofs.Words.{IsWord, is_graph, first_is, after_is, has_is, first_spaced, after_spaced, has_spaced, has_none, word_printable, spaced_printable}
+use Rattle.ibos_script.proofs.FieldWords.{number_word, number_read, instance_word, instance_read, hex_word, hex_read, key_word, key_read}
+
+-- ---- fields
+
+-- the fields stand there, and make that act
+record Says {A : Type 0} (fields : Fields A) (act : A) (line : List ℕ) (said : Act) : Type 0 where
+  pub counted : fields.counts line ≡ true
+  pub read : fields.reads act line ≡ Ok (ActLine said)
+  pub printable : list_all is_printable line ≡ true
+  pub ends : len_before 32 line ≡ 0
+
+nothing_says : (act : Act) → Says nothing act [] act
+nothing_says act = record { counted = ap not has_none; read = refl; printable = refl; ends = refl }
+
+rest_says : (act : List ℕ → Act) (text : List ℕ) → IsRest text → Says rest act (32 ∷ text) (act text)
+rest_says act text is = record { counted = refl; read = ap (λ t. Ok (ActLine (act t))) is.1; printable = is.0; ends = refl }
+
+field_says : {A B : Type 0} (fault : LineFault) (reader : List ℕ → Option B) (more : Fields A) (act : B → A) (word tail : List ℕ) (x : B) (said : Act)
+    → IsWord word → reader word ≡ Some x → Says more (act x) tail said → Says (field fault reader more) act (32 ∷ (word ++ tail)) said
+field_says fault reader more act word tail x said is reads says =
+    let first = first_spaced (word ++ tail) ∙ first_is word tail is says.ends in
+    let after = after_spaced (word ++ tail) ∙ after_is word tail is says.ends in
+    let has = has_spaced (word ++ tail) ∙ has_is word tail is in
+    record {
+      counted = rw (has, after) says.counted;
+      read = rw (first, after) (rw reads says.read);
+      printable = list_all-append is_printable word tail ∙ rw (word_printable word is, says.printable) refl;
+      ends = refl;
+    }
+
+last_says : {B : Type 0} (fault : LineFault) (reader : List ℕ → Option B) (act : B → Act) (word : List ℕ) (x : B)
+    → IsWord word → reader word ≡ Some x → Says (field fault reader nothing) act (32 ∷ word) (act x)
+last_says fault reader act word x is reads =
+    let says = field_says fault reader nothing act word [] x (act x) is reads (nothing_says (act x)) in
+    subst (λ line. Says (field fault reader nothing) act (32 ∷ line) (act x)) (append-nil word) says
+
+tab_says : {A : Type 0} (more : Fields A) (act : ℕ → A) (n : ℕ) (tail : List ℕ) (said : Act) → n < 64 → Says more (act n) tail said → Says (tab more) act (32 ∷ (decimal n ++ tail)) said
+tab_says more act n tail said small = field_says Number (number_in 64) more act (decimal n) tail n said (number_word n (omega (arith, small))) (number_read 64 n small (omega arith))
+
+number_says : {A : Type 0} (more : Fields A) (act : ℕ → A) (n : ℕ) (tail : List ℕ) (said : Act) → n < 2 ^ 32 → Says more (act n) tail said → Says (number more) act (32 ∷ (decimal n ++ tail)) said
+number_says more act n tail said small = field_says Number (number_in 4294967296) more act (decimal n) tail n said (number_word n small) (number_read 4294967296 n small (omega arith))
+
+form_says : {A : Type 0} (fields : Fields A) (act : A) (line : List ℕ) (said : Act) → Says fields act line said → form fields act line ≡ Ok (ActLine said)
+form_says fields act line said says = rw says.counted says.read
+
+form_of_says : {A : Type 0} (fields : Fields A) (act : Instance → A) (who : Instance) (line : List ℕ) (said : Act) → IsNamed who → Says fields (act who) line said
+    → form_of fields act (instance_text who) line ≡ Ok (ActLine said)
+form_of_says fields act who line said named says = rw (says.counted, instance_read who named) says.read
+
+-- ---- actors and commands
+
+literal : (word : List ℕ) → list_all is_graph word ≡ true → 0 < length word → IsWord word
+literal word graph some = record { graph = graph; some = some }
+
+user_says : (command tail : List ℕ) (said : Act) → IsWord command → len_before 32 tail ≡ 0 → user_in command tail ≡ Ok (ActLine said)
+    → act_in (first_word (codes "user" ++ 32 ∷ (command ++ tail))) (after_word (codes "user" ++ 32 ∷ (command ++ tail))) ≡ Ok (ActLine said)
+unfolding act_in
+user_says command tail said is none says =
+    let first = first_is (codes "user") (32 ∷ (command ++ tail)) (literal (codes "user") refl (omega arith)) refl in
+    let after = after_is (codes "user") (32 ∷ (command ++ tail)) (literal (codes "user") refl (omega arith)) refl in
+    let second = first_spaced (command ++ tail) ∙ first_is command tail is none in
+    let third = after_spaced (command ++ tail) ∙ after_is command tail is none in
+    rw (first, after) (rw (second, third) says)
+
+-- behind three words
+side_in : Side → List ℕ → List ℕ → List ℕ → Result Line LineFault
+side_in Page = page_in
+side_in Net = net_in
+
+side_word : (side : Side) → IsWord (side_text side)
+side_word Page = literal (codes "page") refl (omega arith)
+side_word Net = literal (codes "net") refl (omega arith)
+
+side_starts : (side : Side) (line : List ℕ) → act_in (side_text side) line ≡ side_in side (first_word line) (first_word (after_word line)) (after_word (after_word line))
+unfolding act_in side_in
+side_starts Page line = refl
+side_starts Net line = refl
+
+side_says : (side : Side) (who : Instance) (command tail : List ℕ) (said : Act) → IsNamed who → IsWord command → len_before 32 tail ≡ 0
+    → side_in side (instance_text who) command tail ≡ Ok (ActLine said)
+    → act_in (first_word (side_text side ++ 32 ∷ (instance_text who ++ 32 ∷ (command ++ tail)))) (after_word (side_text side ++ 32 ∷ (instance_text who ++ 32 ∷ (command ++ tail)))) ≡ Ok (ActLine said)
+side_says side who command tail said named is none says =
+    let word = instance_word who named in
+    let rest : List ℕ = instance_text who ++ 32 ∷ (command ++ tail) in
+    let first = first_is (side_text side) (32 ∷ rest) (side_word side) refl in
+    let after = after_is (side_text side) (32 ∷ rest) (side_word side) refl in
+    let second = first_spaced rest ∙ first_is (instance_text who) (32 ∷ (command ++ tail)) word refl in
+    let third = after_spaced rest ∙ after_is (instance_text who) (32 ∷ (command ++ tail)) word refl in
+    let fourth = first_spaced (command ++ tail) ∙ first_is command tail is none in
+    let fifth = after_spaced (command ++ tail) ∙ after_is command tail is none in
+    rw (first, after) (side_starts side (32 ∷ rest) ∙ rw (second, third) (rw (fourth, fifth) says))
+
+-- ---- lines
+
+when_none : (long printable comment none : Bool) (r : Result (Option Line) LineFault) → long ≡ false → printable ≡ true → comment ≡ false → none ≡ true
+    → (if long then Err Long else if not printable then Err Byte else if comment || not none then Ok None else r) ≡ r
+when_none long printable comment none r is_long is_printable is_comment is_none = rw (is_long, is_printable, is_comment, is_none) refl
+
+line_says : (word rest : List ℕ) (said : Act) → IsWord word → list_all is_printable rest ≡ true → is_comment word ≡ false → length (word ++ 32 ∷ rest) ≤ 8192
+    → act_in (first_word (word ++ 32 ∷ rest)) (after_word (word ++ 32 ∷ rest)) ≡ Ok (ActLine said) → line_in (word ++ 32 ∷ rest) ≡ Ok (Some (ActLine said))
+unfolding line_in
+line_says word rest said is printable plain short says =
+    when_none (nat_lt 8192 (length (word ++ 32 ∷ rest))) (list_all is_printable (word ++ 32 ∷ rest)) (is_comment (word ++ 32 ∷ rest)) (has_word (word ++ 32 ∷ rest)) _
+    (grind (arith, nat_tests, short)) (spaced_printable word rest is printable) (no_comment word (32 ∷ rest) is plain) (has_is word (32 ∷ rest) is)
+    ∙ ap some_line says
+  where
+    no_comment : (w tail : List ℕ) → IsWord w → is_comment w ≡ false → is_comment (w ++ tail) ≡ false
+    no_comment [] tail some plain = absurd (omega (arith, some.some))
+    no_comment (b ∷ w) tail some plain = plain
+
+user_line : {A : Type 0} (fields : Fields A) (act : A) (command tail : List ℕ) (said : Act) → IsWord command → Says fields act tail said → user_in command tail ≡ form fields act tail
+    → length (codes "user" ++ 32 ∷ (command ++ tail)) ≤ 8192 → line_in (codes "user" ++ 32 ∷ (command ++ tail)) ≡ Ok (Some (ActLine said))
+user_line fields act command tail said is says forms short =
+    line_says (codes "user") (command ++ tail) said (literal (codes "user") refl (omega arith))
+    (list_all-append is_printable command tail ∙ rw (word_printable command is, says.printable) refl) refl short
+    (user_says command tail said is says.ends (forms ∙ form_says fields act tail said says))
+
+side_line : {A : Type 0} (fields : Fields A) (act : Instance → A) (side : Side) (who : Instance) (command tail : List ℕ) (said : Act) → IsNamed who → IsWord command → Says fields (act who) tail said
+    → side_in side (instance_text who) command tail ≡ form_of fields act (instance_text who) tail
+    → length (side_text side ++ 32 ∷ (instance_text who ++ 32 ∷ (command ++ tail))) ≤ 8192
+    → line_in (side_text side ++ 32 ∷ (instance_text who ++ 32 ∷ (command ++ tail))) ≡ Ok (Some (ActLine said))
+side_line fields act side who command tail said named is says forms short =
+    line_says (side_text side) (instance_text who ++ 32 ∷ (command ++ tail)) said (side_word side)
+    (spaced_printable (instance_text who) (command ++ tail) (instance_word who named) (list_all-append is_printable command tail ∙ rw (word_printable command is, says.printable) refl))
+    (plain side) short
+    (side_says side who command tail said named is says.ends (forms ∙ form_of_says fields act who tail said named says))
+  where
+    plain : (s : Side) → is_comment (side_text s) ≡ false
+    plain Page = refl
+    plain Net = refl
+
+cookie_starts : (side : Side) (who line : List ℕ) → side_in side who (codes "cookie") line ≡ cookie_in side who (first_word line) (after_word line)
+unfolding side_in page_in net_in
+cookie_starts Page who line = refl
+cookie_starts Net who line = refl
+
+-- behind `cookie`
+cookie_line : {A : Type 0} (fields : Fields A) (act : Instance → A) (side : Side) (who : Instance) (command tail : List ℕ) (said : Act) → IsNamed who → IsWord command → Says fields (act who) tail said
+    → cookie_in side (instance_text who) command tail ≡ form_of fields act (instance_text who) tail
+    → length (side_text side ++ 32 ∷ (instance_text who ++ 32 ∷ (codes "cookie" ++ 32 ∷ (command ++ tail)))) ≤ 8192
+    → line_in (side_text side ++ 32 ∷ (instance_text who ++ 32 ∷ (codes "cookie" ++ 32 ∷ (command ++ tail)))) ≡ Ok (Some (ActLine said))
+cookie_line fields act side who command tail said named is says forms short =
+    line_says (side_text side) (instance_text who ++ 32 ∷ (codes "cookie" ++ 32 ∷ (command ++ tail))) said (side_word side)
+    (spaced_printable (instance_text who) (codes "cookie" ++ 32 ∷ (command ++ tail)) (instance_word who named)
+    (spaced_printable (codes "cookie") (command ++ tail) (literal (codes "cookie") refl (omega arith)) (list_all-append is_printable command tail ∙ rw (word_printable command is, says.printable) refl)))
+    (plain side) short
+    (side_says side who (codes "cookie") (32 ∷ (command ++ tail)) said named (literal (codes "cookie") refl (omega arith)) refl
+    (cookie_starts side (instance_text who) (32 ∷ (command ++ tail)) ∙ rw (first_spaced (command ++ tail) ∙ first_is command tail is says.ends, after_spaced (command ++ tail) ∙ after_is command tail is says.ends)
+    (forms ∙ form_of_says fields act who tail said named says)))
+  where
+    plain : (s : Side) → is_comment (side_text s) ≡ false
+    plain Page = refl
+    plain Net = refl
+
+-- ---- acts
+
+pub spelled_reads : (act : Act) → Fits act → IsSpellable act → length (spelled act) ≤ 8192 → line_in (spelled act) ≡ Ok (Some (ActLine act))
+unfolding user_in side_in page_in cookie_in
+spelled_reads (Start n url) fits is short =
+    user_line (tab rest) Start (codes "open") _ _ (literal _ refl (omega arith)) (tab_says rest Start n (32 ∷ url) (Start n url) fits (rest_says (Start n) url is)) refl short
+spelled_reads (Switch n) fits is short =
+    user_line (tab nothing) Switch (codes "switch") _ _ (literal _ refl (omega arith)) (last_says Number (number_in 64) Switch (decimal n) n (number_word n (omega (arith, fits))) (number_read 64 n fits (omega arith))) refl short
+spelled_reads (Close n) fits is short =
+    user_line (tab nothing) Close (codes "close") _ _ (literal _ refl (omega arith)) (last_says Number (number_in 64) Close (decimal n) n (number_word n (omega (arith, fits))) (number_read 64 n fits (omega arith))) refl short
+spelled_reads (Press k) fits is short =
+    user_line (key nothing) Press (codes "key") _ _ (literal _ refl (omega arith)) (last_says Number key_in Press (key_text k) k (key_word k fits) (key_read k fits)) refl short
+spelled_reads (Click row col) fits is short =
+    user_line (number (number nothing)) Click (codes "click") _ _ (literal _ refl (omega arith))
+    (number_says (number nothing) Click row (32 ∷ decimal col) (Click row col) is.0 (last_says Number (number_in 4294967296) (Click row) (decimal col) col (number_word col is.1) (number_read 4294967296 col is.1 (omega arith)))) refl short
+spelled_reads Look fits is short = user_line nothing Look (codes "look") [] Look (literal _ refl (omega arith)) (nothing_says Look) refl short
+spelled_reads (Go who url) fits is short =
+    side_line rest Go Page who (codes "go") _ _ fits (literal _ refl (omega arith)) (rest_says (Go who) url is) refl short
+spelled_reads (Draw who row col height width pixels) fits is short =
+    let said = Draw who row col height width pixels in
+    side_line (number (number (number (number (hex nothing))))) Draw Page who (codes "draw") _ _ fits (literal _ refl (omega arith))
+    (number_says (number (number (number (hex nothing)))) (Draw who) row _ said is.0
+    (number_says (number (number (hex nothing))) (Draw who row) col _ said is.1
+    (number_says (number (hex nothing)) (Draw who row col) height _ said is.2
+    (number_says (hex nothing) (Draw who row col height) width _ said is.3
+    (last_says Hex hex_in (Draw who row col height width) (hex_text pixels) pixels (hex_word pixels is.4) (hex_read pixels is.4)))))) refl short
+spelled_reads (CookieSet side who text) fits is short =
+    cookie_line rest (CookieSet side) side who (codes "set") _ _ fits (literal _ refl (omega arith)) (rest_says (CookieSet side who) text is) refl short
+spelled_reads (CookieGet side who) fits is short =
+    cookie_line nothing (CookieGet side) side who (codes "get") [] (CookieGet side who) fits (literal _ refl (omega arith)) (nothing_says (CookieGet side who)) refl short
