@@ -34,15 +34,36 @@ form_in words = None
 unfoldable pub usage_line : List ℕ
 usage_line = codes "usage: ibos run HOSTS SCRIPT [CAPTURE] | ibos drill SEED ROUNDS\n"
 
--- ---- scripts
+-- ---- refusals
 
--- the first fault of a file: the line that has it, and the fault's number and name
+-- the files that a run reads
+pub data File : Type 0 where
+  Hosts : File
+  Capture : File
+  Script : File
+
+abbrev pub file_word : File → List ℕ
+file_word Hosts = codes "hosts"
+file_word Capture = codes "capture"
+file_word Script = codes "script"
+
+-- the first fault of the inputs: the file that has it, the line (from 1) or the capture's entry (from 1, and 0 for its
+-- header), and the fault's number and name
 pub record Refusal : Type 0 where
-  pub line : ℕ
+  pub file : File
+  pub place : ℕ
   pub number : ℕ
   pub name : List ℕ
 
--- the acts of a script that stand before its first fault, and that fault
+-- the last line of a run that a fault of a file ended
+unfoldable pub refusal_line : Refusal → List ℕ
+refusal_line refusal =
+    codes "refused " ++ file_word refusal.file ++ codes " " ++ decimal refusal.place ++ codes " "
+    ++ decimal refusal.number ++ codes " " ++ refusal.name ++ codes "\n"
+
+-- ---- scripts
+
+-- the acts that stand before the first fault, and that fault
 pub record Reading : Type 0 where
   pub acts : List Act
   pub refused : Option Refusal
@@ -54,41 +75,46 @@ abbrev pub refused_by : Refusal → Reading
 refused_by refusal = record { acts = []; refused = Some refusal }
 
 abbrev pub line_refusal : ℕ → LineFault → Refusal
-line_refusal line fault = record { line = line; number = number_of fault; name = name_of fault }
+line_refusal line fault = record { file = Script; place = line; number = number_of fault; name = name_of fault }
 
--- what is read from a line on, where that is what the lines behind it give
-abbrev pub reading_by : ℕ → Result (Option Line) LineFault → Reading → Reading
-reading_by number (Ok None) reading = reading
-reading_by number (Ok (Some (ActLine act))) reading = onto_acts act reading
-reading_by number (Err fault) reading = refused_by (line_refusal number fault)
+-- what is read from a line on with the frames that are left, where that is what the lines behind it give
+abbrev pub reading_by : ℕ → Result (Option Line) LineFault → List (List ℕ) → (List (List ℕ) → Reading) → Reading
+reading_by number (Ok None) frames next = next frames
+reading_by number (Ok (Some (ActLine act))) frames next = onto_acts act (next frames)
+reading_by number (Err fault) frames next = refused_by (line_refusal number fault)
 
 -- the line holds the byte after the limit
 unfoldable pub too_long : ℕ → Refusal
-too_long number = record { line = number; number = 8; name = codes "TooLong" }
+too_long line = record { file = Script; place = line; number = 8; name = codes "TooLong" }
 
 abbrev pub is_last : List (List ℕ) → Bool
 is_last [] = true
 is_last (line ∷ lines) = false
 
--- what lines give from one of that number on; where the text passes the limit, its last line is too long
-abbrev pub reading_from : Bool → ℕ → List (List ℕ) → Reading
-reading_from passes number [] = record { acts = []; refused = None }
-reading_from passes number (line ∷ lines) =
+-- what lines give from one of that number on, with the frames that are left; where the text passes the limit, its last
+-- line is too long
+abbrev pub reading_from : Bool → ℕ → List (List ℕ) → List (List ℕ) → Reading
+reading_from passes number [] frames = record { acts = []; refused = None }
+reading_from passes number (line ∷ lines) frames =
     if passes && is_last lines then refused_by (too_long number)
-    else reading_by number (line_in line) (reading_from passes (number + 1) lines)
+    else reading_by number (line_in line) frames (reading_from passes (number + 1) lines)
 
 -- what is read of a script, which is cut behind the byte after the first 67,108,864
 unfoldable pub script_in : List ℕ → List ℕ
 script_in file = take 67108865 file
 
-unfoldable pub reading_of : List ℕ → Reading
-reading_of script = reading_from (nat_lt 67108864 (length script)) 1 (lines_of script)
+-- what a script gives with the frames of its capture
+unfoldable pub reading_of : List (List ℕ) → List ℕ → Reading
+reading_of frames script = reading_from (nat_lt 67108864 (length script)) 1 (lines_of script) frames
 
 -- ---- host tables
 
 -- what is read of a host table, which is cut behind the byte after the first 4,194,304
 unfoldable pub table_in : List ℕ → List ℕ
 table_in file = take 4194305 file
+
+abbrev pub host_refusal : ℕ × HostFault → Refusal
+host_refusal fault = record { file = Hosts; place = fault.0; number = host.number_of fault.1; name = host.name_of fault.1 }
 
 -- ---- what is asked for
 
@@ -97,15 +123,13 @@ pub data Input : Type 0 where
   NoForm : Input
   -- the host table has a fault
   NoHosts : (refusal : Refusal) → Input
-  -- a host table, and what the script gives
-  Session : (hosts : HostTable) (script : Reading) → Input
+  -- a host table, and what the script gives; a capture with a fault gives no act, and that fault
+  Session : (hosts : HostTable) (reading : Reading) → Input
 
+-- no form has a capture yet, so there is no frame
 abbrev pub session_in : HostTable → Option (List ℕ) → Option Input
 session_in H None = None
-session_in H (Some file) = Some (Session H (reading_of (script_in file)))
-
-abbrev pub host_refusal : ℕ × HostFault → Refusal
-host_refusal fault = record { line = fault.0; number = host.number_of fault.1; name = host.name_of fault.1 }
+session_in H (Some file) = Some (Session H (reading_of [] (script_in file)))
 
 -- the script is looked at where the host table has no fault
 abbrev pub input_over : Result HostTable (ℕ × HostFault) → Option (List ℕ) → Option Input
@@ -124,36 +148,30 @@ input_by (Some form) holds = input_with (holds form.hosts) (holds form.script)
 abbrev pub input : List (List ℕ) → (List ℕ → Option (List ℕ)) → Option Input
 input words holds = input_by (form_in words) holds
 
--- ---- what comes of it
+-- ---- what comes of it, where the device wrote W
 
--- the journal of a script
-abbrev pub journal_of : HostTable → Reading → Journal
-journal_of H reading = run H reading.acts []
-
--- the last line of a run that a fault of a file ended
-unfoldable pub refusal_line : List ℕ → Refusal → List ℕ
-refusal_line file refusal =
-    codes "refused " ++ file ++ codes " " ++ decimal refusal.line ++ codes " " ++ decimal refusal.number ++ codes " " ++ refusal.name ++ codes "\n"
+abbrev pub journal_of : HostTable → Reading → List (List ℕ) → Journal
+journal_of H reading W = run H reading.acts W
 
 abbrev pub last_line : ℕ → Option Refusal → List ℕ
 last_line acts None = end_line acts
-last_line acts (Some refusal) = refusal_line (codes "script") refusal
+last_line acts (Some refusal) = refusal_line refusal
 
 -- the text of a journal, and the last line
 abbrev pub printed : Journal → Option Refusal → List ℕ
 printed J refused = text_of J ++ last_line (length J) refused
 
-unfoldable pub session_text : HostTable → Reading → List ℕ
-session_text H reading = printed (journal_of H reading) reading.refused
+unfoldable pub session_text : HostTable → Reading → List (List ℕ) → List ℕ
+session_text H reading W = printed (journal_of H reading W) reading.refused
 
 -- the text that is wanted
-abbrev pub wanted : Input → List ℕ
-wanted NoForm = usage_line
-wanted (NoHosts refusal) = refusal_line (codes "hosts") refusal
-wanted (Session H reading) = session_text H reading
+abbrev pub wanted : Input → List (List ℕ) → List ℕ
+wanted NoForm W = usage_line
+wanted (NoHosts refusal) W = refusal_line refusal
+wanted (Session H reading) W = session_text H reading W
 
 -- In the journal of the inputs, if there is one, each instance is told what the facts that concern it give.
-abbrev pub IsIsolatedInput : Input → Type 0
-IsIsolatedInput NoForm = Unit {0}
-IsIsolatedInput (NoHosts refusal) = Unit {0}
-IsIsolatedInput (Session H reading) = IsIsolatedIn H (journal_of H reading)
+abbrev pub IsIsolatedInput : List (List ℕ) → Input → Type 0
+IsIsolatedInput W NoForm = Unit {0}
+IsIsolatedInput W (NoHosts refusal) = Unit {0}
+IsIsolatedInput W (Session H reading) = IsIsolatedIn H (journal_of H reading W)

@@ -1,7 +1,8 @@
-pub mod Taking
-pub mod Few
+pub mod Taken
+pub mod Pieces
+pub mod ActCounts
 pub mod Readings
-pub mod Served
-pub mod Told
-pub mod Carries
+pub mod Sessions
+pub mod Files
+pub mod Inputs
 pub mod Counts

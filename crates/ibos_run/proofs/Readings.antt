@@ -23,9 +23,10 @@ is_last-lines_of (b ∷ text) = not_last (b == 10) b (pieces_of text) ∙ none (
     none n some = grind (arith, nat_tests)
 
 -- what is left, and its first line
-pub read_first : (passes : Bool) (lines : ℕ) (rest line after : List ℕ) (whole : Reading) → reading_from passes (lines + 1) (lines_of rest) ≡ whole → lines_of rest ≡ line ∷ lines_of after
-    → (if passes && is_last (lines_of after) then refused_by (too_long (lines + 1)) else reading_by (lines + 1) (line_in line) (reading_from passes (lines + 1 + 1) (lines_of after))) ≡ whole
-read_first passes lines rest line after whole same split = sym (ap (reading_from passes (lines + 1)) split) ∙ same
+pub read_first : (passes : Bool) (lines : ℕ) (rest line after : List ℕ) (frames : List (List ℕ)) (whole : Reading)
+    → reading_from passes (lines + 1) (lines_of rest) frames ≡ whole → lines_of rest ≡ line ∷ lines_of after
+    → (if passes && is_last (lines_of after) then refused_by (too_long (lines + 1)) else reading_by (lines + 1) (line_in line) frames (reading_from passes (lines + 1 + 1) (lines_of after))) ≡ whole
+read_first passes lines rest line after frames whole same split = sym (ap (λ (ls : List (List ℕ)). reading_from passes (lines + 1) ls frames) split) ∙ same
 
 -- the line asks for something
 pub found_next : (found : Option Next) (next : Next) (read whole reading : Reading) → read ≡ whole → MatchOption found (read ≡ reading) (λ next. Leads read next reading) → found ≡ Some next → Leads whole next reading
@@ -35,6 +36,7 @@ pub found_none : (found : Option Next) (read whole reading : Reading) → read �
 found_none found read whole reading same leads is = sym (subst (λ (f : Option Next). MatchOption f (read ≡ reading) (λ next. Leads read next reading)) is leads) ∙ same
 
 -- there is no line
-pub read_none : (passes : Bool) (number : ℕ) (rest : List ℕ) (whole : Reading) → reading_from passes number (lines_of rest) ≡ whole → rest ≡ [] → whole ≡ record { acts = []; refused = None }
+pub read_none : (passes : Bool) (number : ℕ) (rest : List ℕ) (frames : List (List ℕ)) (whole : Reading) → reading_from passes number (lines_of rest) frames ≡ whole → rest ≡ []
+    → whole ≡ record { acts = []; refused = None }
 unfolding lines_of pieces_of
-read_none passes number rest whole same none = sym same ∙ ap (λ text. reading_from passes number (lines_of text)) none
+read_none passes number rest frames whole same none = sym same ∙ ap (λ text. reading_from passes number (lines_of text) frames) none

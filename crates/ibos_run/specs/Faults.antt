@@ -1,12 +1,12 @@
 -- How a run ends, and what cut it off.
-use Rattle.std.specs.Prelude.{Option, Some, None}
+use Rattle.std.specs.Prelude.{ℕ, Option, Some, None}
 use Rattle.ibos_run.specs.declared.fault.Fault.{Fault}
 use Rattle.ibos_run.specs.declared.fault.Fault.TheVariants.{Read, Write, Memory}
 use Rattle.ibos_run.specs.declared.fault.Status.{Status}
 use Rattle.ibos_run.specs.declared.fault.Status.TheVariants.{Done, Usage, Refused, ReadFault, WriteFault, Memory as NoMemory}
 use Rattle.ibos_model.specs.Inputs.{Input, NoForm, NoHosts, Session, Refusal}
 
--- a fault of reading comes only where P, a fault of writing only where Q; want of memory is free
+-- a fault of reading comes only where P, a fault of writing only where Q; out of memory a run may be at any time
 abbrev pub IsCaused : Fault → Type 0 → Type 0 → Type 0
 IsCaused Read P Q = P
 IsCaused Write P Q = Q
@@ -17,7 +17,16 @@ status_of Read = ReadFault
 status_of Write = WriteFault
 status_of Memory = NoMemory
 
--- the claim, where neither a fault of the cabinet or the sink nor want of memory ended the run
+-- the number that the program exits with
+abbrev pub exit_number_of : Status → ℕ
+exit_number_of Done = 0
+exit_number_of Usage = 2
+exit_number_of Refused = 3
+exit_number_of ReadFault = 4
+exit_number_of WriteFault = 5
+exit_number_of NoMemory = 6
+
+-- the claim, where no failed read or write ended the run, and it was not out of memory
 abbrev pub OnWhole : Status → Type 0 → Type 0
 OnWhole Done P = P
 OnWhole Usage P = P

@@ -1,3 +1,4 @@
+pub mod Took
 pub mod Faults
 pub mod Script
 pub mod Forms

@@ -1,6 +1,6 @@
 // How a run ends.
 ghost use Rattle.std.specs.Prelude.{◌≡◌};
-ghost use Rattle.ibos_run.specs.Faults.{status_of};
+ghost use Rattle.ibos_run.specs.Faults.{exit_number_of, status_of};
 
 use ibos_kinds::{Failed, Memory};
 use std::alloc::AllocError;
@@ -14,12 +14,28 @@ pub enum Status {
     Usage,
     /// An input has a fault. The sink took the text of the acts before it, and the refusal line.
     Refused,
-    /// A read of a named file failed.
+    /// A read of a named file failed. The sink took a front of the text that is wanted.
     ReadFault,
-    /// A write failed.
+    /// A write failed. The sink took a front of the text that is wanted.
     WriteFault,
-    /// No memory was found.
+    /// The run was out of memory. The sink took a front of the text that is wanted.
     Memory,
+}
+
+impl Status {
+    /// The number that the program exits with.
+    pub fn exit_number(self) -> u8
+        ensures { result ≡ exit_number_of self }
+    {
+        match self {
+            Status::Done => 0,
+            Status::Usage => 2,
+            Status::Refused => 3,
+            Status::ReadFault => 4,
+            Status::WriteFault => 5,
+            Status::Memory => 6,
+        }
+    }
 }
 
 /// What cut a run off.

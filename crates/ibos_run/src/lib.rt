@@ -5,7 +5,7 @@ mod fault;
 mod gather;
 mod run_words;
 mod script;
-mod serving;
+mod session;
 mod texts;
 mod transfer;
 

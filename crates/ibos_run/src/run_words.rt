@@ -1,5 +1,5 @@
 // The top call.
-ghost use Rattle.std.specs.Prelude.{◌≡◌, ◌⊎◌, ◌≤◌, ◌<◌, ◌+◌, ◌-◌, ◌^◌, [], codes, IsSome, IsSomeAnd, IfSome, IfOk, IfErr, OnOk, List, ℕ};
+ghost use Rattle.std.specs.Prelude.{◌≡◌, ◌⊎◌, ◌≤◌, ◌<◌, ◌+◌, ◌-◌, ◌^◌, [], IsSome, IsSomeAnd, IfSome, IfOk, IfErr, OnErr, OnOk, List, ℕ};
 ghost use Rattle.std.specs.Option.{option_map};
 ghost use Rattle.ibos_kinds.specs.Outside.{Rose, taken_after};
 ghost use Rattle.ibos_origin.specs.Reads.{Reads};
@@ -7,19 +7,21 @@ ghost use Rattle.ibos_origin.specs.Tables.{hosts_in};
 ghost use Rattle.ibos_model.specs.Inputs.{IsIsolatedInput, form_in, host_refusal, input, input_with, refusal_line, session_in, table_in, wanted};
 ghost use Rattle.ibos_run.specs.Faults.{IsCaused, IsFaultless, OnWhole, status_for};
 ghost use Rattle.ibos_run.specs.Forms.{form_of};
+ghost use Rattle.ibos_run.specs.Took.{Took, TookFront};
 
 use crate::fault::{Fault, Status};
 use crate::gather::{hand_over, make_room};
-use crate::script::LIMIT;
-use crate::serving::serve;
-use crate::texts::{refusal, usage};
+use crate::script::MAX_SCRIPT_LEN;
+use crate::session::run_session;
+use crate::texts::{File, refusal, usage};
 use crate::transfer::{read_file, write_all};
 use ibos_kinds::{Bytes, Cabinet, Failed, Sink};
+use ibos_model::isolation;
 use ibos_origin::{HostFault, Hosts, HostsFault};
 use std::alloc::Global;
 
 // The most that a host table may have, in bytes.
-const HOSTS_LIMIT: usize = 4_194_304;
+const MAX_HOSTS_LEN: usize = 4_194_304;
 
 /// Runs the words of a command line: `run HOSTS SCRIPT`, with the names of a host table and a script.
 ///
@@ -35,28 +37,47 @@ pub fn run<C: Cabinet, K: Sink>(
     sink: &mut K,
 ) -> Status
     requires sink_count { K.faults sink.old < 2 ^ 64 - 1 }
-    requires file_counts { IfSome (form_in words.now) (λ form. (C.faults cabinet.old form.hosts < 2 ^ 64 - 1) × (C.faults cabinet.old form.script < 2 ^ 64 - 1)) }
+    requires file_counts { IfSome (form_in words.now) (λ form.
+        (C.faults cabinet.old form.hosts < 2 ^ 64 - 1)
+        × (C.faults cabinet.old form.script < 2 ^ 64 - 1)) }
 
-    // Where no fault and no want of memory ended the run, its status and its text are those of the inputs.
-    ensures status { OnWhole result (IfSome (input words.now (C.holds cabinet.old)) (λ i. result ≡ status_for i)) }
-    ensures text { OnWhole result (IfSome (input words.now (C.holds cabinet.old)) (λ i. K.taken sink.new ≡ taken_after (K.taken sink.old) (wanted i))) }
+    // Where no failed read or write ended the run, and it was not out of memory, its status and its text
+    // are those of the inputs.
+    ensures status { OnWhole result (
+        IfSome (input words.now (C.holds cabinet.old)) (λ i. result ≡ status_for i)) }
+    ensures text { OnWhole result (
+        IfSome (input words.now (C.holds cabinet.old)) (λ i.
+            K.taken sink.new ≡ taken_after (K.taken sink.old) (wanted i []))) }
+
+    // With any status the sink took a front of that text.
+    ensures text_front { IfSome (input words.now (C.holds cabinet.old)) (λ i.
+        TookFront (K.taken sink.old) (K.taken sink.new) [] (wanted i [])) }
 
     // In the journal of the inputs each instance is told what the facts that concern it give.
-    ensures isolation { IfSome (input words.now (C.holds cabinet.old)) IsIsolatedInput }
+    ensures isolation { IfSome (input words.now (C.holds cabinet.old)) (IsIsolatedInput []) }
+
+    // The cabinet holds what it held.
+    ensures holds { (name : List ℕ) → C.holds cabinet.new name ≡ C.holds cabinet.old name }
 
     // Usage comes exactly where the words are no form, unless a write failed.
     ensures usage { result ≡ Status.Usage → form_in words.now ≡ None }
-    ensures no_form { form_in words.now ≡ None → (result ≡ Status.Usage) ⊎ (result ≡ Status.WriteFault) }
+    ensures no_form { form_in words.now ≡ None
+        → (result ≡ Status.Usage) ⊎ (result ≡ Status.WriteFault) }
 
     // Each fault has its cause.
     ensures read { result ≡ Status.ReadFault → IsSomeAnd (form_in words.now) (λ form.
-        Rose (C.faults cabinet.old form.hosts) (C.faults cabinet.new form.hosts) ⊎ Rose (C.faults cabinet.old form.script) (C.faults cabinet.new form.script)) }
+        Rose (C.faults cabinet.old form.hosts) (C.faults cabinet.new form.hosts)
+        ⊎ Rose (C.faults cabinet.old form.script) (C.faults cabinet.new form.script)) }
     ensures write { result ≡ Status.WriteFault → Rose (K.faults sink.old) (K.faults sink.new) }
     ensures memory { result ≡ Status.Memory → IsSome (form_in words.now) }
     ensures complete { K.faults sink.new ≡ K.faults sink.old
-        → IfSome (form_in words.now) (λ form. (C.faults cabinet.new form.hosts ≡ C.faults cabinet.old form.hosts) × (C.faults cabinet.new form.script ≡ C.faults cabinet.old form.script))
+        → IfSome (form_in words.now) (λ form.
+            (C.faults cabinet.new form.hosts ≡ C.faults cabinet.old form.hosts)
+            × (C.faults cabinet.new form.script ≡ C.faults cabinet.old form.script))
         → IsFaultless result }
 {
+    // Called for the law that is its clause.
+    isolation();
     match read_form(words) {
         None => match write_all(sink, usage()) {
             Ok(()) => Status::Usage,
@@ -87,7 +108,7 @@ fn read_form(words: &[Bytes]) -> Option<Form<'_>>
     }
 }
 
-// What is gathered before want of memory is handed over too.
+// What is gathered before a fault, or before memory runs out, is handed over too.
 fn run_files<C: Cabinet, K: Sink>(
     alloc: Global,
     hosts: &Bytes,
@@ -95,19 +116,29 @@ fn run_files<C: Cabinet, K: Sink>(
     cabinet: &mut C,
     sink: &mut K,
 ) -> Result<Status, Fault>
-    ensures told { IfOk result (λ status. IfSome (input_with (C.holds cabinet.old hosts.now) (C.holds cabinet.old script.now)) (λ i.
-        (status ≡ status_for i) × (K.taken sink.new ≡ taken_after (K.taken sink.old) (wanted i)))) }
+    ensures status { IfOk result (λ status.
+        IfSome (input_with (C.holds cabinet.old hosts.now) (C.holds cabinet.old script.now)) (λ i. status ≡ status_for i)) }
+    ensures text { OnOk result (
+        IfSome (input_with (C.holds cabinet.old hosts.now) (C.holds cabinet.old script.now)) (λ i.
+            Took (K.taken sink.old) (K.taken sink.new) [] (wanted i []))) }
+    ensures front { OnErr result (
+        IfSome (input_with (C.holds cabinet.old hosts.now) (C.holds cabinet.old script.now)) (λ i.
+            TookFront (K.taken sink.old) (K.taken sink.new) [] (wanted i []))) }
     ensures ends { IfOk result (λ status. (status ≡ Status.Done) ⊎ (status ≡ Status.Refused)) }
+    ensures holds { (name : List ℕ) → C.holds cabinet.new name ≡ C.holds cabinet.old name }
     ensures cause { IfErr result (λ fault. IsCaused fault
-        (Rose (C.faults cabinet.old hosts.now) (C.faults cabinet.new hosts.now) ⊎ Rose (C.faults cabinet.old script.now) (C.faults cabinet.new script.now))
+        (Rose (C.faults cabinet.old hosts.now) (C.faults cabinet.new hosts.now)
+            ⊎ Rose (C.faults cabinet.old script.now) (C.faults cabinet.new script.now))
         (Rose (K.faults sink.old) (K.faults sink.new))) }
 {
     let mut text = make_room(alloc)?;
-    let result = gather(alloc, hosts, script, cabinet, &mut text, sink);
-    if let Err(Fault::Memory) = result {
-        hand_over(&mut text, sink)?;
+    match gather(alloc, hosts, script, cabinet, &mut text, sink) {
+        Ok(status) => Ok(status),
+        Err(fault) => {
+            hand_over(&mut text, sink)?;
+            Err(fault)
+        }
     }
-    result
 }
 
 fn gather<C: Cabinet, K: Sink>(
@@ -119,12 +150,20 @@ fn gather<C: Cabinet, K: Sink>(
     sink: &mut K,
 ) -> Result<Status, Fault>
     requires { text.old ≡ [] }
-    ensures told { IfOk result (λ status. IfSome (input_with (C.holds cabinet.old hosts.now) (C.holds cabinet.old script.now)) (λ i.
-        (status ≡ status_for i) × (K.taken sink.new ≡ taken_after (K.taken sink.old) (wanted i)))) }
+    ensures status { IfOk result (λ status.
+        IfSome (input_with (C.holds cabinet.old hosts.now) (C.holds cabinet.old script.now)) (λ i. status ≡ status_for i)) }
+    ensures text { OnOk result (
+        IfSome (input_with (C.holds cabinet.old hosts.now) (C.holds cabinet.old script.now)) (λ i.
+            Took (K.taken sink.old) (K.taken sink.new) [] (wanted i []))) }
+    ensures front { OnErr result (
+        IfSome (input_with (C.holds cabinet.old hosts.now) (C.holds cabinet.old script.now)) (λ i.
+            TookFront (K.taken sink.old) (K.taken sink.new) text.new (wanted i []))) }
     ensures ends { IfOk result (λ status. (status ≡ Status.Done) ⊎ (status ≡ Status.Refused)) }
+    ensures holds { (name : List ℕ) → C.holds cabinet.new name ≡ C.holds cabinet.old name }
     ensures later { K.faults sink.old ≤ K.faults sink.new }
     ensures cause { IfErr result (λ fault. IsCaused fault
-        (Rose (C.faults cabinet.old hosts.now) (C.faults cabinet.new hosts.now) ⊎ Rose (C.faults cabinet.old script.now) (C.faults cabinet.new script.now))
+        (Rose (C.faults cabinet.old hosts.now) (C.faults cabinet.new hosts.now)
+            ⊎ Rose (C.faults cabinet.old script.now) (C.faults cabinet.new script.now))
         (Rose (K.faults sink.old) (K.faults sink.new))) }
 {
     match read_hosts(alloc, cabinet, hosts)? {
@@ -139,12 +178,14 @@ fn read_hosts<C: Cabinet>(
     cabinet: &mut C,
     name: &Bytes,
 ) -> Result<Result<Hosts, HostsFault>, Fault>
-    ensures hosts { IfOk result (λ read. IfSome (C.holds cabinet.old name.now) (λ file. Reads read (hosts_in (table_in file)))) }
+    ensures hosts { IfOk result (λ read. IfSome (C.holds cabinet.old name.now) (λ file.
+        Reads read (hosts_in (table_in file)))) }
     ensures holds { (name : List ℕ) → C.holds cabinet.new name ≡ C.holds cabinet.old name }
     ensures later { (name : List ℕ) → C.faults cabinet.old name ≤ C.faults cabinet.new name }
-    ensures cause { IfErr result (λ fault. IsCaused fault (Rose (C.faults cabinet.old name.now) (C.faults cabinet.new name.now)) ⊥) }
+    ensures cause { IfErr result (λ fault.
+        IsCaused fault (Rose (C.faults cabinet.old name.now) (C.faults cabinet.new name.now)) ⊥) }
 {
-    let table = read_file(alloc, cabinet, name, HOSTS_LIMIT)?;
+    let table = read_file(alloc, cabinet, name, MAX_HOSTS_LEN)?;
     let hosts = Hosts::read(alloc, table.as_slice());
     Ok(hosts)
 }
@@ -158,18 +199,17 @@ fn refuse_hosts<K: Sink>(
 ) -> Result<Status, Fault>
     requires { text.old ≡ [] }
     ensures status { IfOk result (λ status. status ≡ Status.Refused) }
-    ensures taken { OnOk result (K.taken sink.new ≡ taken_after (K.taken sink.old) (refusal_line (codes "hosts") (host_refusal (line, fault)))) }
+    ensures text { OnOk result (Took (K.taken sink.old) (K.taken sink.new) []
+        (refusal_line (host_refusal (line, fault)))) }
+    ensures front { OnErr result (TookFront (K.taken sink.old) (K.taken sink.new) text.new
+        (refusal_line (host_refusal (line, fault)))) }
     ensures later { K.faults sink.old ≤ K.faults sink.new }
-    ensures cause { IfErr result (λ fault. IsCaused fault ⊥ (Rose (K.faults sink.old) (K.faults sink.new))) }
+    ensures cause { IfErr result (λ fault.
+        IsCaused fault ⊥ (Rose (K.faults sink.old) (K.faults sink.new))) }
 {
-    let line = refusal(
-        alloc,
-        b"hosts",
-        line,
-        fault.number(),
-        fault.name().as_bytes(),
-    )?;
-    text.push_slice(line.as_slice())?;
+    let (number, name) = (fault.number(), fault.name().as_bytes());
+    let last = refusal(alloc, File::Hosts, line, number, name)?;
+    text.push_slice(last.as_slice())?;
     hand_over(text, sink)?;
     Ok(Status::Refused)
 }
@@ -183,14 +223,23 @@ fn gather_script<C: Cabinet, K: Sink>(
     sink: &mut K,
 ) -> Result<Status, Fault>
     requires { text.old ≡ [] }
-    ensures told { IfOk result (λ status. IfSome (session_in hosts (C.holds cabinet.old name.now)) (λ i.
-        (status ≡ status_for i) × (K.taken sink.new ≡ taken_after (K.taken sink.old) (wanted i)))) }
+    ensures status { IfOk result (λ status.
+        IfSome (session_in hosts (C.holds cabinet.old name.now)) (λ i. status ≡ status_for i)) }
+    ensures text { OnOk result (
+        IfSome (session_in hosts (C.holds cabinet.old name.now)) (λ i.
+            Took (K.taken sink.old) (K.taken sink.new) [] (wanted i []))) }
+    ensures front { OnErr result (
+        IfSome (session_in hosts (C.holds cabinet.old name.now)) (λ i.
+            TookFront (K.taken sink.old) (K.taken sink.new) text.new (wanted i []))) }
     ensures ends { IfOk result (λ status. (status ≡ Status.Done) ⊎ (status ≡ Status.Refused)) }
+    ensures holds { (name : List ℕ) → C.holds cabinet.new name ≡ C.holds cabinet.old name }
     ensures files_later { (name : List ℕ) → C.faults cabinet.old name ≤ C.faults cabinet.new name }
     ensures later { K.faults sink.old ≤ K.faults sink.new }
-    ensures cause { IfErr result (λ fault. IsCaused fault (Rose (C.faults cabinet.old name.now) (C.faults cabinet.new name.now)) (Rose (K.faults sink.old) (K.faults sink.new))) }
+    ensures cause { IfErr result (λ fault. IsCaused fault
+        (Rose (C.faults cabinet.old name.now) (C.faults cabinet.new name.now))
+        (Rose (K.faults sink.old) (K.faults sink.new))) }
 {
-    let script = read_file(alloc, cabinet, name, LIMIT)?;
-    let status = serve(alloc, hosts, script.as_slice(), text, sink)?;
+    let script = read_file(alloc, cabinet, name, MAX_SCRIPT_LEN)?;
+    let status = run_session(alloc, hosts, script.as_slice(), text, sink)?;
     Ok(status)
 }

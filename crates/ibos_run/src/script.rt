@@ -1,5 +1,5 @@
 // A script, act by act.
-ghost use Rattle.std.specs.Prelude.{◌≡◌, ◌≤◌, ◌<◌, ◌+◌, ◌^◌, ◌&&◌, length, IfOk, MatchOption, if◌then◌else◌};
+ghost use Rattle.std.specs.Prelude.{◌≡◌, ◌≤◌, ◌<◌, ◌+◌, ◌^◌, ◌&&◌, List, [], ℕ, length, IfOk, MatchOption, if◌then◌else◌};
 ghost use Rattle.ibos_script.specs.Lines.{line_in};
 ghost use Rattle.ibos_text.specs.Lines.{lines_of};
 ghost use Rattle.ibos_model.specs.Inputs.{Reading, is_last, reading_by, reading_from, reading_of, refused_by, too_long};
@@ -11,7 +11,7 @@ use std::alloc::Global;
 use std::marker::Model;
 
 /// The most that a script may have, in bytes.
-pub const LIMIT: usize = 67_108_864;
+pub const MAX_SCRIPT_LEN: usize = 67_108_864;
 
 /// How a script ends: at its end, or at its first fault. Lines are counted from 1.
 #[derive(Clone, Copy)]
@@ -19,7 +19,7 @@ pub enum End {
     Whole,
     /// The line holds the byte after the limit.
     TooLong { line: u32 },
-    /// The line has a fault, which isn't want of memory.
+    /// The line has a fault, which isn't that memory ran out.
     Refused { line: u32, fault: LineFault },
 }
 
@@ -30,7 +30,7 @@ pub enum Next {
     End(End),
 }
 
-/// What is left of a script.
+/// What is left of a script. No form has a capture yet, so no frame is left with it.
 #[derive(Drop)]
 pub struct Script<'a> {
     rest: &'a [u8],
@@ -41,7 +41,7 @@ pub struct Script<'a> {
 impl<'a> Model for Script<'a> {
     ghost Value = { Reading };
 
-    ghost view = { λ s. reading_from s.passes (s.lines + 1) (lines_of s.rest.now) };
+    ghost view = { λ s. reading_from s.passes (s.lines + 1) (lines_of s.rest.now) [] };
 
     ghost invariant = { λ s. s.lines + length s.rest.now < 2 ^ 31 };
 }
@@ -52,14 +52,14 @@ impl<'a> Script<'a> {
     /// The whole of a script, of which the bytes up to the limit and one more are given.
     #[tactic(auto, unfolding(ibos_model::specs::Inputs::reading_of))]
     pub fn new(text: &'a [u8]) -> Script<'a>
-        requires { length text.now ≤ LIMIT + 1 }
-        ensures reading { result ≡ reading_of text.now }
+        requires { length text.now ≤ MAX_SCRIPT_LEN + 1 }
+        ensures reading { result ≡ reading_of [] text.now }
         ensures few { length result.acts ≤ length text.now }
     {
         Script {
             rest: text,
             lines: 0,
-            passes: text.len() > LIMIT,
+            passes: text.len() > MAX_SCRIPT_LEN,
         }
     }
 
@@ -88,11 +88,13 @@ fn is_past(passes: bool, after: &[u8]) -> bool
     passes && after.is_empty()
 }
 
-// What a line of that number asks for, if anything; `passes` is whether it holds the byte after the limit.
+// What a line of that number asks for, if anything, whatever the lines behind it give. `passes` is whether
+// it holds the byte after the limit.
 fn find_next(alloc: Global, line: &[u8], number: u32, passes: bool) -> Result<Option<Next>, Memory>
-    ensures { IfOk result (λ found. (reading : Reading) →
-        let read = (if passes then refused_by (too_long number) else reading_by number (line_in line.now) reading)
-        in MatchOption found (read ≡ reading) (λ next. Leads read next reading)) }
+    ensures { IfOk result (λ found. (behind : List (List ℕ) → Reading) →
+        let read = (if passes then refused_by (too_long number)
+            else reading_by number (line_in line.now) [] behind)
+        in MatchOption found (read ≡ behind []) (λ next. Leads read next (behind []))) }
 {
     if passes {
         return Ok(Some(Next::End(End::TooLong { line: number })));

@@ -2,10 +2,29 @@
 ghost use Rattle.std.specs.Prelude.{◌≡◌, ◌++◌, IfOk, codes, string_bytes};
 ghost use Rattle.ibos_script.specs.Printed.{pieces_text};
 ghost use Rattle.ibos_model.specs.Text as spec;
-ghost use Rattle.ibos_model.specs.Inputs.{Refusal, refusal_line, usage_line};
+ghost use Rattle.ibos_model.specs.Inputs.{Refusal, file_word, refusal_line, usage_line};
+ghost use Rattle.ibos_run.specs.Forms.{file_of};
 
 use ibos_kinds::{Bytes, Memory};
 use std::alloc::{AllocError, Global};
+
+/// The files that a refusal names.
+#[derive(Clone, Copy)]
+pub enum File {
+    Hosts,
+    Script,
+}
+
+impl File {
+    pub fn word(self) -> &'static [u8]
+        ensures { result.now ≡ file_word (file_of self) }
+    {
+        match self {
+            File::Hosts => b"hosts",
+            File::Script => b"script",
+        }
+    }
+}
 
 /// The line that words are answered with that are no form.
 #[tactic(auto, unfolding(ibos_model::specs::Inputs::usage_line))]
@@ -23,30 +42,36 @@ pub fn end_line(alloc: Global, acts: u32) -> Result<String, AllocError>
     format!(in alloc; "end {acts}\n")
 }
 
-/// The last line of a run that a fault of a file ended.
+/// The last line of a run that a fault of a file ended; `place` is the fault's line.
 #[tactic(auto, unfolding(ibos_model::specs::Inputs::refusal_line))]
 pub fn refusal(
     alloc: Global,
-    file: &[u8],
-    line: u32,
+    file: File,
+    place: u32,
     number: u8,
     name: &[u8],
 ) -> Result<Bytes, Memory>
-    ensures { IfOk result (λ text. text ≡ refusal_line file.now (record { line = line; number = number; name = name.now })) }
+    ensures { IfOk result (λ text. text ≡ refusal_line (record { file = file_of file; place = place; number = number; name = name.now })) }
 {
-    let line = line.to_string(alloc)?;
+    let place = place.to_string(alloc)?;
     let number = number.to_string(alloc)?;
-    refusal_of(alloc, file, line.as_bytes(), number.as_bytes(), name)
+    refusal_of(
+        alloc,
+        file.word(),
+        place.as_bytes(),
+        number.as_bytes(),
+        name,
+    )
 }
 
 fn refusal_of<'a>(
     alloc: Global,
     file: &'a [u8],
-    line: &'a [u8],
+    place: &'a [u8],
     number: &'a [u8],
     name: &'a [u8],
 ) -> Result<Bytes, Memory>
-    ensures { IfOk result (λ text. text ≡ codes "refused " ++ file.now ++ codes " " ++ line.now ++ codes " " ++ number.now ++ codes " " ++ name.now ++ codes "\n") }
+    ensures { IfOk result (λ text. text ≡ codes "refused " ++ file.now ++ codes " " ++ place.now ++ codes " " ++ number.now ++ codes " " ++ name.now ++ codes "\n") }
 {
     joined(
         alloc,
@@ -54,7 +79,7 @@ fn refusal_of<'a>(
             b"refused ",
             file,
             b" ",
-            line,
+            place,
             b" ",
             number,
             b" ",

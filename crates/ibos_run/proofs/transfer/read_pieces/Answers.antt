@@ -2,7 +2,7 @@ use Rattle.std.proofs.Common.{◌≡◌, ◌++◌, arith, take, drop, length, le
 use Rattle.std.specs.Prelude.{IfSome}
 use Rattle.ibos_kinds.specs.Outside.{ReadsFrom}
 use Rattle.std.proofs.lemmas.List.{take-append-le}
-use Rattle.ibos_run.proofs.Taking.{read_more_told}
+use Rattle.ibos_run.proofs.Pieces.{read_more_told}
 use Rattle.ibos_run.proofs.transfer.read_pieces.Goals as goal
 
 pub pieces-preserved : goal.pieces-preserved

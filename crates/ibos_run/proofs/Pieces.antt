@@ -1,21 +1,8 @@
--- What a sink took, piece by piece.
-use Rattle.std.proofs.Common.{◌≡◌, ℕ, ◌+◌, List, ◌++◌, Option, Some, None, refl, sym, ◌∙◌, ap, take, drop, append_assoc, subst}
+-- What was read of a file, piece by piece.
+use Rattle.std.proofs.Common.{◌≡◌, ℕ, ◌+◌, ◌≤◌, List, ◌++◌, Option, Some, None, sym, ◌∙◌, ap, take, subst, length, length-append, length-take-le}
 use Rattle.std.specs.Prelude.{IfSome}
-use Rattle.std.proofs.Common.{◌≤◌, length, length-append, length-take-le}
 use Rattle.std.proofs.Math.Seq.{take-add}
-use Rattle.ibos_kinds.specs.Outside.{taken_after, ReadsFrom}
-
-pub taken_after-append : (before : Option (List ℕ)) (xs ys : List ℕ) → taken_after (taken_after before xs) ys ≡ taken_after before (xs ++ ys)
-taken_after-append None xs ys = refl
-taken_after-append (Some t) xs ys = ap Some (append_assoc t xs ys)
-
--- the front, and then the next bytes
-pub taken_more : (first before now : Option (List ℕ)) (bytes : List ℕ) (at got : ℕ) → before ≡ taken_after first (take at bytes)
-    → now ≡ taken_after before (take got (drop at bytes)) → now ≡ taken_after first (take (at + got) bytes)
-taken_more first before now bytes at got so_far more =
-    more ∙ ap (λ t. taken_after t (take got (drop at bytes))) so_far
-    ∙ taken_after-append first (take at bytes) (take got (drop at bytes))
-    ∙ ap (taken_after first) (sym (take-add at got bytes))
+use Rattle.ibos_kinds.specs.Outside.{ReadsFrom}
 
 -- a piece joins the text that was read
 pub read_more : (text piece file : List ℕ) (got : ℕ) → text ≡ take (length text) file → got ≤ length piece → ReadsFrom file (length text) got piece
