@@ -1,6 +1,7 @@
 // Files of the system.
-ghost use Rattle.std.specs.Prelude.{◌≡◌, ◌≤◌, List, ℕ, length, IfOk, IfErr};
+ghost use Rattle.std.specs.Prelude.{◌≡◌, ◌≤◌, List, ℕ, length, IfOk};
 
+use crate::faults::Faults;
 use ibos_kinds::{Bytes, Cabinet, Failed};
 use std::io::{self, Read, Seek, SeekFrom};
 use std::rt::Files;
@@ -10,22 +11,28 @@ use std::rt::Files;
 #[derive(Drop)]
 pub struct FileCabinet<'a, R: Files> {
     rt: &'a R,
-    faults: u64,
+    faults: Faults,
 }
 
 impl<'a, R: Files> FileCabinet<'a, R> {
     pub fn new(rt: &'a R) -> Self
         ensures { result.faults ≡ 0 }
     {
-        FileCabinet { rt, faults: 0 }
+        FileCabinet {
+            rt,
+            faults: Faults::new(),
+        }
     }
 }
 
-// Opens the file, and reads from a place on.
-fn read_file<R: Files>(rt: &R, name: &str, place: u64, into: &mut [u8]) -> io::Result<usize>
+// Opens the file, and reads from a place on. A name that is no text is that of no file.
+fn read_file<R: Files>(rt: &R, name: &[u8], place: u64, into: &mut [u8]) -> io::Result<usize>
     ensures { IfOk result (λ got. got ≤ length into.new) }
 {
-    let mut file = std::fs::open(rt, name)?;
+    let Ok(path) = std::str::from_utf8(name) else {
+        return Err(io::ErrorKind::InvalidInput.into());
+    };
+    let mut file = std::fs::open(rt, path)?;
     file.seek(SeekFrom::Start(place))?;
     file.read(into)
 }
@@ -38,12 +45,7 @@ impl<R: Files> Cabinet for FileCabinet<'_, R> {
     ghost faults = { λ c name. c.faults };
 
     fn read_at(&mut self, name: &Bytes, place: u64, into: &mut [u8]) -> Result<usize, Failed> {
-        if let Ok(path) = std::str::from_utf8(name.as_slice()) {
-            if let Ok(got) = read_file(self.rt, path, place, into) {
-                return Ok(got);
-            }
-        }
-        self.faults = self.faults.saturating_add(1);
-        Err(Failed::Failed)
+        let got = read_file(self.rt, name.as_slice(), place, into);
+        self.faults.note(got)
     }
 }

@@ -2,6 +2,7 @@
 //! and ends with its status.
 #![tactic(auto)]
 
+mod faults;
 mod files;
 mod stdout;
 
@@ -56,25 +57,17 @@ fn words_of(rt: &(impl Env + AllocGlobal)) -> Result<Vec<Bytes>, WordsFault> {
     Ok(words)
 }
 
-fn exit_of(status: Status) -> u8 {
-    match status {
-        Status::Done => 0,
-        Status::Usage => 2,
-        Status::Refused => 3,
-        Status::ReadFault => 4,
-        Status::WriteFault => 5,
-        Status::Memory => 6,
-    }
-}
+// The exit number where the runtime refuses the words for another cause than that it is out of memory.
+const WORDS_REFUSED: u8 = 7;
 
 fn main(rt: HostRuntime) -> ExitCode {
     let words = match words_of(&rt) {
         Ok(words) => words,
-        Err(WordsFault::Memory) => return ExitCode::from(6),
-        Err(WordsFault::Other) => return ExitCode::from(7),
+        Err(WordsFault::Memory) => return ExitCode::from(Status::Memory.exit_number()),
+        Err(WordsFault::Other) => return ExitCode::from(WORDS_REFUSED),
     };
     let mut cabinet = FileCabinet::new(&rt);
     let mut sink = StdoutSink::new(&rt);
     let status = run(rt.alloc(), words.as_slice(), &mut cabinet, &mut sink);
-    ExitCode::from(exit_of(status))
+    ExitCode::from(status.exit_number())
 }

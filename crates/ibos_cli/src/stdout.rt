@@ -1,6 +1,8 @@
 // Standard output.
-ghost use Rattle.std.specs.Prelude.{◌≡◌, ◌≤◌, ◌<◌, length, IfOk};
+ghost use Rattle.std.specs.Prelude.{◌≡◌, length, IfOk};
+ghost use Rattle.ibos_kinds.specs.Outside.{TakesFront};
 
+use crate::faults::Faults;
 use ibos_kinds::{Failed, Sink};
 use std::io::{self, Write};
 
@@ -9,23 +11,29 @@ use std::io::{self, Write};
 #[derive(Drop)]
 pub struct StdoutSink<'a, R: Print> {
     rt: &'a R,
-    faults: u64,
+    faults: Faults,
 }
 
 impl<'a, R: Print> StdoutSink<'a, R> {
     pub fn new(rt: &'a R) -> Self
         ensures { result.faults ≡ 0 }
     {
-        StdoutSink { rt, faults: 0 }
+        StdoutSink {
+            rt,
+            faults: Faults::new(),
+        }
     }
 }
 
 // Writes of the front, and hands on what was written.
 fn write_front<R: Print>(rt: &R, bytes: &[u8]) -> io::Result<usize>
-    ensures { IfOk result (λ took. took ≤ length bytes.now) }
+    ensures { IfOk result (TakesFront (length bytes.now)) }
 {
     let mut out = io::writer(rt);
     let took = out.write(bytes)?;
+    if took == 0 && !bytes.is_empty() {
+        return Err(io::ErrorKind::WriteZero.into());
+    }
     out.flush()?;
     Ok(took)
 }
@@ -38,12 +46,7 @@ impl<R: Print> Sink for StdoutSink<'_, R> {
     ghost faults = { λ s. s.faults };
 
     fn write(&mut self, bytes: &[u8]) -> Result<usize, Failed> {
-        if let Ok(took) = write_front(self.rt, bytes) {
-            if took > 0 || bytes.is_empty() {
-                return Ok(took);
-            }
-        }
-        self.faults = self.faults.saturating_add(1);
-        Err(Failed::Failed)
+        let took = write_front(self.rt, bytes);
+        self.faults.note(took)
     }
 }

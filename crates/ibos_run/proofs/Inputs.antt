@@ -1,5 +1,5 @@
 -- What holds of the inputs that the words ask for.
-use Rattle.std.proofs.Common.{◌≡◌, List, [], ℕ, Option, Some, None, sym, subst}
+use Rattle.std.proofs.Common.{◌≡◌, List, [], ℕ, Option, Some, None, subst}
 use Rattle.std.specs.Prelude.{IfSome}
 use Rattle.ibos_kinds.specs.Outside.{taken_after}
 use Rattle.ibos_model.specs.Laws.{IsIsolated}

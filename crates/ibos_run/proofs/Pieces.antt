@@ -14,10 +14,10 @@ read_more text piece file got front within read =
     ∙ sym (take-add (length text) got file) ∙ ap (λ n. take n file) (sym all)
 
 -- the same, where the cabinet may not tell the file
-pub read_more_told : (first now : Option (List ℕ)) (text after piece : List ℕ) (got : ℕ) → now ≡ first → after ≡ text ++ take got piece → got ≤ length piece
+pub read_more_if : (first now : Option (List ℕ)) (text after piece : List ℕ) (got : ℕ) → now ≡ first → after ≡ text ++ take got piece → got ≤ length piece
     → IfSome first (λ file. text ≡ take (length text) file) → IfSome now (λ file. ReadsFrom file (length text) got piece)
     → IfSome first (λ file. after ≡ take (length after) file)
-read_more_told None now text after piece got same is within front read = tt
-read_more_told (Some file) now text after piece got same is within front read =
-    let told : ReadsFrom file (length text) got piece = subst (λ (held : Option (List ℕ)). IfSome held (λ f. ReadsFrom f (length text) got piece)) same read in
-    rw is (read_more text piece file got front within told)
+read_more_if None now text after piece got same is within front read = tt
+read_more_if (Some file) now text after piece got same is within front read =
+    let read-there : ReadsFrom file (length text) got piece = subst (λ (held : Option (List ℕ)). IfSome held (λ f. ReadsFrom f (length text) got piece)) same read in
+    rw is (read_more text piece file got front within read-there)

@@ -5,7 +5,7 @@ use Rattle.ibos_script.specs.Printed.{outcome_text}
 use Rattle.ibos_origin.specs.Hosts.{HostTable}
 use Rattle.ibos_model.specs.Journal.{Entry, Journal, heard}
 use Rattle.ibos_model.specs.Rows.{out}
-use Rattle.ibos_model.specs.Runs.{GoesOn, IsRun, entry_of, left_by, run, run_from}
+use Rattle.ibos_model.specs.Runs.{GoesOn, IsRun, entry_of, run, run_from}
 use Rattle.ibos_model.specs.Text.{text_of}
 use Rattle.ibos_model.specs.Laws.{AreFronts, DoGoOn}
 use Rattle.ibos_model.specs.Inputs.{Refusal, Reading, onto_acts, journal_of, last_line, printed, session_text}
@@ -50,7 +50,7 @@ at_next goes_on H whole left after first now new gathered more kernel kept act J
     let stands-here : Stands (e ∷ J) kept = subst (λ (T : HostTable). Stands (entry act (out T J act) ∷ J) kept) at.table stands in
     let is : IsRun H (e ∷ J) = subst (λ (T : HostTable). IsRun T (e ∷ J)) hosts stands-here.parts.run in
     let took-here : Took now new more (gathered ++ line) =
-        subst (λ (T : HostTable). Took now new more (gathered ++ outcome_text (length J + 1) (out T J act))) at.table took in
+    subst (λ (T : HostTable). Took now new more (gathered ++ outcome_text (length J + 1) (out T J act))) at.table took in
     record {
       stands = stands-here;
       table = hosts;
@@ -86,9 +86,9 @@ pub stopped_within : AreFronts → (H : HostTable) (whole left after : Reading) 
 stopped_within fronts H whole left after first now new gathered more kernel act J at split front =
     let line : List ℕ = outcome_text (length J + 1) (out H J act) in
     let front-here : TookFront now new more (gathered ++ line) =
-        subst (λ (T : HostTable). TookFront now new more (gathered ++ outcome_text (length J + 1) (out T J act))) at.table front in
+    subst (λ (T : HostTable). TookFront now new more (gathered ++ outcome_text (length J + 1) (out T J act))) at.table front in
     let took : TookFront first now (gathered ++ line) (text_of J ++ line) =
-        front_of first now (gathered ++ line) (text_of J ++ line) (took_more first now gathered (text_of J) line at.text) in
+    front_of first now (gathered ++ line) (text_of J ++ line) (took_more first now gathered (text_of J) line at.text) in
     let goes : GoesOn H J (act ∷ after.acts) whole.acts = subst (λ (r : Reading). GoesOn H J r.acts whole.acts) split at.goes in
     stopped fronts H whole (entry_of H J [] act ∷ J) after.acts [] first new more
     (front_then first now new (gathered ++ line) more (text_of J ++ line) took front-here) (comes_to H whole J (act ∷ after.acts) goes)
@@ -116,7 +116,7 @@ unfolding session_text
 with_last H whole first now gathered text acts refused over pushed =
     let J : Journal = journal_of H whole [] in
     let last : text ≡ gathered ++ last_line (length J) whole.refused =
-        pushed ∙ ap (λ n. gathered ++ last_line n refused) over.counted ∙ ap (λ r. gathered ++ last_line (length J) r) over.refuses in
+    pushed ∙ ap (λ n. gathered ++ last_line n refused) over.counted ∙ ap (λ r. gathered ++ last_line (length J) r) over.refuses in
     subst (λ t. Took first now t (printed J whole.refused)) (sym last)
     (took_more first now gathered (text_of J) (last_line (length J) whole.refused) over.text)
 

@@ -14,7 +14,7 @@ refusal_of Whole = None
 refusal_of (TooLong line) = Some (too_long line)
 refusal_of (Refused line fault) = Some (line_refusal line fault)
 
--- want of memory is no fault of a line
+-- that the run is out of memory is no fault of a line
 abbrev pub IsOfScript : End → Type 0
 IsOfScript (Refused line fault) = fault ≢ Memory
 IsOfScript other = Unit {0}

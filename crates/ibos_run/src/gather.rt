@@ -37,7 +37,8 @@ pub fn hand_over<K: Sink>(text: &mut Bytes, sink: &mut K) -> Result<(), Failed>
 /// Hands the text to the sink once there is much of it.
 pub fn hand_over_if_much<K: Sink>(text: &mut Bytes, sink: &mut K) -> Result<(), Failed>
     ensures all { OnOk result (Took (K.taken sink.old) (K.taken sink.new) text.new text.old) }
-    ensures front { OnErr result (TookFront (K.taken sink.old) (K.taken sink.new) text.new text.old) }
+    ensures front { OnErr result (
+        TookFront (K.taken sink.old) (K.taken sink.new) text.new text.old) }
     ensures cause { HasCause (K.faults sink.old) (K.faults sink.new) result }
 {
     if text.len() >= MIN_PIECE {

@@ -47,7 +47,7 @@ pub fn run<C: Cabinet, K: Sink>(
         IfSome (input words.now (C.holds cabinet.old)) (λ i. result ≡ status_for i)) }
     ensures text { OnWhole result (
         IfSome (input words.now (C.holds cabinet.old)) (λ i.
-            K.taken sink.new ≡ taken_after (K.taken sink.old) (wanted i []))) }
+        K.taken sink.new ≡ taken_after (K.taken sink.old) (wanted i []))) }
 
     // With any status the sink took a front of that text.
     ensures text_front { IfSome (input words.now (C.holds cabinet.old)) (λ i.
@@ -72,8 +72,8 @@ pub fn run<C: Cabinet, K: Sink>(
     ensures memory { result ≡ Status.Memory → IsSome (form_in words.now) }
     ensures complete { K.faults sink.new ≡ K.faults sink.old
         → IfSome (form_in words.now) (λ form.
-            (C.faults cabinet.new form.hosts ≡ C.faults cabinet.old form.hosts)
-            × (C.faults cabinet.new form.script ≡ C.faults cabinet.old form.script))
+        (C.faults cabinet.new form.hosts ≡ C.faults cabinet.old form.hosts)
+        × (C.faults cabinet.new form.script ≡ C.faults cabinet.old form.script))
         → IsFaultless result }
 {
     // Called for the law that is its clause.
@@ -108,7 +108,7 @@ fn read_form(words: &[Bytes]) -> Option<Form<'_>>
     }
 }
 
-// What is gathered before a fault, or before memory runs out, is handed over too.
+// What is gathered is handed over, also where a read failed or the run is out of memory.
 fn run_files<C: Cabinet, K: Sink>(
     alloc: Global,
     hosts: &Bytes,
@@ -117,18 +117,19 @@ fn run_files<C: Cabinet, K: Sink>(
     sink: &mut K,
 ) -> Result<Status, Fault>
     ensures status { IfOk result (λ status.
-        IfSome (input_with (C.holds cabinet.old hosts.now) (C.holds cabinet.old script.now)) (λ i. status ≡ status_for i)) }
+        IfSome (input_with (C.holds cabinet.old hosts.now) (C.holds cabinet.old script.now)) (λ i.
+        status ≡ status_for i)) }
     ensures text { OnOk result (
         IfSome (input_with (C.holds cabinet.old hosts.now) (C.holds cabinet.old script.now)) (λ i.
-            Took (K.taken sink.old) (K.taken sink.new) [] (wanted i []))) }
+        Took (K.taken sink.old) (K.taken sink.new) [] (wanted i []))) }
     ensures front { OnErr result (
         IfSome (input_with (C.holds cabinet.old hosts.now) (C.holds cabinet.old script.now)) (λ i.
-            TookFront (K.taken sink.old) (K.taken sink.new) [] (wanted i []))) }
+        TookFront (K.taken sink.old) (K.taken sink.new) [] (wanted i []))) }
     ensures ends { IfOk result (λ status. (status ≡ Status.Done) ⊎ (status ≡ Status.Refused)) }
     ensures holds { (name : List ℕ) → C.holds cabinet.new name ≡ C.holds cabinet.old name }
     ensures cause { IfErr result (λ fault. IsCaused fault
         (Rose (C.faults cabinet.old hosts.now) (C.faults cabinet.new hosts.now)
-            ⊎ Rose (C.faults cabinet.old script.now) (C.faults cabinet.new script.now))
+        ⊎ Rose (C.faults cabinet.old script.now) (C.faults cabinet.new script.now))
         (Rose (K.faults sink.old) (K.faults sink.new))) }
 {
     let mut text = make_room(alloc)?;
@@ -151,19 +152,20 @@ fn gather<C: Cabinet, K: Sink>(
 ) -> Result<Status, Fault>
     requires { text.old ≡ [] }
     ensures status { IfOk result (λ status.
-        IfSome (input_with (C.holds cabinet.old hosts.now) (C.holds cabinet.old script.now)) (λ i. status ≡ status_for i)) }
+        IfSome (input_with (C.holds cabinet.old hosts.now) (C.holds cabinet.old script.now)) (λ i.
+        status ≡ status_for i)) }
     ensures text { OnOk result (
         IfSome (input_with (C.holds cabinet.old hosts.now) (C.holds cabinet.old script.now)) (λ i.
-            Took (K.taken sink.old) (K.taken sink.new) [] (wanted i []))) }
+        Took (K.taken sink.old) (K.taken sink.new) [] (wanted i []))) }
     ensures front { OnErr result (
         IfSome (input_with (C.holds cabinet.old hosts.now) (C.holds cabinet.old script.now)) (λ i.
-            TookFront (K.taken sink.old) (K.taken sink.new) text.new (wanted i []))) }
+        TookFront (K.taken sink.old) (K.taken sink.new) text.new (wanted i []))) }
     ensures ends { IfOk result (λ status. (status ≡ Status.Done) ⊎ (status ≡ Status.Refused)) }
     ensures holds { (name : List ℕ) → C.holds cabinet.new name ≡ C.holds cabinet.old name }
     ensures later { K.faults sink.old ≤ K.faults sink.new }
     ensures cause { IfErr result (λ fault. IsCaused fault
         (Rose (C.faults cabinet.old hosts.now) (C.faults cabinet.new hosts.now)
-            ⊎ Rose (C.faults cabinet.old script.now) (C.faults cabinet.new script.now))
+        ⊎ Rose (C.faults cabinet.old script.now) (C.faults cabinet.new script.now))
         (Rose (K.faults sink.old) (K.faults sink.new))) }
 {
     match read_hosts(alloc, cabinet, hosts)? {
@@ -227,10 +229,10 @@ fn gather_script<C: Cabinet, K: Sink>(
         IfSome (session_in hosts (C.holds cabinet.old name.now)) (λ i. status ≡ status_for i)) }
     ensures text { OnOk result (
         IfSome (session_in hosts (C.holds cabinet.old name.now)) (λ i.
-            Took (K.taken sink.old) (K.taken sink.new) [] (wanted i []))) }
+        Took (K.taken sink.old) (K.taken sink.new) [] (wanted i []))) }
     ensures front { OnErr result (
         IfSome (session_in hosts (C.holds cabinet.old name.now)) (λ i.
-            TookFront (K.taken sink.old) (K.taken sink.new) text.new (wanted i []))) }
+        TookFront (K.taken sink.old) (K.taken sink.new) text.new (wanted i []))) }
     ensures ends { IfOk result (λ status. (status ≡ Status.Done) ⊎ (status ≡ Status.Refused)) }
     ensures holds { (name : List ℕ) → C.holds cabinet.new name ≡ C.holds cabinet.old name }
     ensures files_later { (name : List ℕ) → C.faults cabinet.old name ≤ C.faults cabinet.new name }

@@ -19,7 +19,7 @@ pub enum End {
     Whole,
     /// The line holds the byte after the limit.
     TooLong { line: u32 },
-    /// The line has a fault, which isn't that memory ran out.
+    /// The line has a fault, which isn't that it was out of memory.
     Refused { line: u32, fault: LineFault },
 }
 
@@ -93,7 +93,7 @@ fn is_past(passes: bool, after: &[u8]) -> bool
 fn find_next(alloc: Global, line: &[u8], number: u32, passes: bool) -> Result<Option<Next>, Memory>
     ensures { IfOk result (λ found. (behind : List (List ℕ) → Reading) →
         let read = (if passes then refused_by (too_long number)
-            else reading_by number (line_in line.now) [] behind)
+        else reading_by number (line_in line.now) [] behind)
         in MatchOption found (read ≡ behind []) (λ next. Leads read next (behind []))) }
 {
     if passes {

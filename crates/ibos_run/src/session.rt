@@ -128,10 +128,10 @@ fn make_act<K: Sink>(
         Stands (entry act (out kernel.old.hosts J act) ∷ J) kernel.new) }
     ensures text { OnOk result ((J : Journal) → Stands J kernel.old →
         Took (K.taken sink.old) (K.taken sink.new) text.new
-            (text.old ++ outcome_text (length J + 1) (out kernel.old.hosts J act))) }
+        (text.old ++ outcome_text (length J + 1) (out kernel.old.hosts J act))) }
     ensures front { OnErr result ((J : Journal) → Stands J kernel.old →
         TookFront (K.taken sink.old) (K.taken sink.new) text.new
-            (text.old ++ outcome_text (length J + 1) (out kernel.old.hosts J act))) }
+        (text.old ++ outcome_text (length J + 1) (out kernel.old.hosts J act))) }
     ensures hosts { kernel.new.hosts ≡ kernel.old.hosts }
     ensures usable { OnOk result (kernel.new.usable ≡ true) }
     ensures acts { OnOk result (kernel.new.acts ≡ kernel.old.acts + 1) }

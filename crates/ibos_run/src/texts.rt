@@ -51,7 +51,12 @@ pub fn refusal(
     number: u8,
     name: &[u8],
 ) -> Result<Bytes, Memory>
-    ensures { IfOk result (λ text. text ≡ refusal_line (record { file = file_of file; place = place; number = number; name = name.now })) }
+    ensures { IfOk result (λ text. text ≡ refusal_line (record {
+      file = file_of file;
+      place = place;
+      number = number;
+      name = name.now;
+    })) }
 {
     let place = place.to_string(alloc)?;
     let number = number.to_string(alloc)?;
@@ -71,7 +76,8 @@ fn refusal_of<'a>(
     number: &'a [u8],
     name: &'a [u8],
 ) -> Result<Bytes, Memory>
-    ensures { IfOk result (λ text. text ≡ codes "refused " ++ file.now ++ codes " " ++ place.now ++ codes " " ++ number.now ++ codes " " ++ name.now ++ codes "\n") }
+    ensures { IfOk result (λ text. text ≡ codes "refused " ++ file.now ++ codes " " ++ place.now
+        ++ codes " " ++ number.now ++ codes " " ++ name.now ++ codes "\n") }
 {
     joined(
         alloc,
