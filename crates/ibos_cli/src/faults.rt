@@ -1,6 +1,7 @@
 // How often calls have failed.
 ghost use Rattle.std.specs.Prelude.{◌≡◌, Err, IfOk, Ok, OnErr};
 ghost use Rattle.ibos_kinds.specs.Fakes.{risen};
+ghost use Rattle.ibos_kinds.specs.Outside.{HasCause};
 
 use ibos_kinds::Failed;
 use std::io;
@@ -30,7 +31,9 @@ impl Faults {
     /// Hands on how many bytes a call moved. One that failed is counted.
     pub fn note(&mut self, moved: io::Result<usize>) -> Result<usize, Failed>
         ensures ok { IfOk moved (λ bytes. (result ≡ Ok bytes) × (self.new ≡ self.old)) }
-        ensures err { OnErr moved ((result ≡ Err Failed.Failed) × (self.new ≡ risen self.old)) }
+        ensures err { OnErr moved (
+            (result ≡ Err Failed.Failed) × (self.new ≡ risen self.old)) }
+        ensures cause { HasCause self.old self.new result }
     {
         match moved {
             Ok(bytes) => Ok(bytes),
