@@ -10,6 +10,7 @@ mod names;
 mod outcome;
 mod outside;
 mod party;
+mod ports;
 mod rule;
 mod screens;
 mod sums;
@@ -22,6 +23,7 @@ pub use names::{Dir, Endpoint, Handle, Heading, Instance, Key, Local, Proto, Sid
 pub use outcome::{Head, Item, Items, Outcome};
 pub use outside::{Cabinet, Failed, Sink};
 pub use party::{Party, actor, addressee};
+pub use ports::{instance_of_port, local_port, ports_are_apart};
 pub use rule::Rule;
 pub use screens::{CHROME_ROWS, COLUMNS, CONTENT_ROWS, SCREEN_ROWS};
 pub use sums::{sum_words, sum16};
