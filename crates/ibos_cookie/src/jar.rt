@@ -122,6 +122,8 @@ impl Jar {
         ensures { IfOk result (λ text. text ≡ jar_text self.now) }
     {
         let mut text = Bytes::new(alloc);
+        // room for all at once: two bytes part the pairs, and one parts a name from its value
+        text.reserve(self.bytes + 3 * MAX_COOKIES)?;
         for (name, value) in &self.values {
             push_pair(&mut text, name.as_slice(), value.as_slice())?;
         }
