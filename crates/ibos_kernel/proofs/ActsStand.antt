@@ -78,7 +78,7 @@ with_active T t active shows = record {
   url = shows.url;
 }
 
--- ---- what a row tells where it is accepted
+-- ---- what is known where an act is accepted
 
 start_free : (live : Option Instance) (next : Instance) (r : Result Page Rule) → is_ok (start_outcome live next r).head ≡ true → live ≡ None
 start_free (Some who) next r ok = cc

@@ -1,4 +1,4 @@
--- The row of an act by the tables is its row by the journal that they stand for.
+-- The outcome of an act by the tables is that by the journal which they stand for.
 use Rattle.std.proofs.Common.{◌≡◌, ℕ, ◌+◌, ◌<◌, Bool, true, false, List, [], ◌∷◌, Option, Some, None, Ok, Err, Result, refl, sym, ◌∙◌, ap, subst, arith}
 use Rattle.std.specs.Prelude.{bytes_eq, nat_lt, is_some, ◌-◌, ◌==◌, option_map, option_and_then, if◌then◌else◌}
 use Rattle.std.proofs.lemmas.Bool.Decides.{nat_tests}
@@ -31,7 +31,7 @@ use Rattle.ibos_kernel.specs.Standing.{TabsStand, PartsStand, entry}
 use Rattle.ibos_kernel.proofs.TabsStanding.{tab_of}
 use Rattle.ibos_kernel.proofs.ScreenSeen.{seen_same, looks_same}
 
--- ---- the row by the tables is the row by the journal
+-- ---- the outcome by the tables is that by the journal
 
 -- an instance is admitted exactly while it lives
 let_in_by : (T : Tabs) (t : TabTable) (who : Instance) (row : Outcome) → TabsStand T t → admitted (life_in T who) row ≡ let_in (admission t who) row
@@ -63,7 +63,7 @@ lives_by who (Some page) count free = by_test (who.ord + 1 == count) refl free
 pub lives_if : (t : TabTable) (who : Instance) → admission t who ≡ None → live_at t who.tab ≡ Some who
 lives_if t who free = lives_by who (seat_at t who.tab).page (seat_at t who.tab).count free
 
--- two rows that are one where the instance is admitted
+-- two outcomes that are one where the instance is admitted
 let_in_same : (t : TabTable) (who : Instance) (row other : Outcome) → (live_at t who.tab ≡ Some who → row ≡ other) → let_in (admission t who) row ≡ let_in (admission t who) other
 let_in_same t who row other same = by_rule (admission t who) refl
   where
@@ -92,7 +92,7 @@ active_same J t stands = rw stands.active (by_tab t.tabs.active)
     by_tab None = refl
     by_tab (Some tab) = stands.tabs.live tab
 
--- Enter at the entry line, in the words of the journal's rows
+-- Enter at the entry line, in the words of the journal's outcomes
 abbrev pub enter_seen : TabTable → Option Instance → Result Page Rule → Outcome
 enter_seen t None r = denied U10
 enter_seen t (Some who) r = go_outcome who (origin_at t who) (next_at t who.tab) r
@@ -104,7 +104,7 @@ entry_key_seen H t entry key = answer (key_breaks entry key)
 abbrev pub press_seen : HostTable → TabTable → Focused → Key → Outcome
 press_seen H t f key = if is_entry f.spot then entry_key_seen H t f.entry_line key else page_key_outcome (active_in t) key
 
--- the row by the tables, in the words of the journal's rows
+-- the outcome by the tables, in the words of the journal's outcomes
 abbrev pub outcome_seen : Parts → Act → Outcome
 outcome_seen t (Start tab url) = start_outcome (live_at t.tabs tab) (next_at t.tabs tab) (allowed t.hosts url)
 outcome_seen t (Switch tab) = switch_outcome (live_at t.tabs tab)

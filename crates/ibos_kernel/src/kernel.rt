@@ -79,7 +79,7 @@ impl Kernel {
     }
 
     /// Makes one act, and fills `out` with its outcome. Whatever journal the kernel stood for, the outcome
-    /// is that journal's row of the act, and the kernel then stands for the journal with the act's entry.
+    /// is the one that the act has there, and the kernel then stands for the journal with the act's entry.
     /// Once it is out of memory the kernel is spent, and `out` is open.
     pub fn step(&mut self, alloc: Global, act: &Act, out: &mut Outcome) -> Result<(), Memory>
         requires usable { self.old.usable ≡ true }

@@ -26,7 +26,7 @@ pub record Mine : Type 0 where
 abbrev pub newborn : Mine
 newborn = record { life = Unborn; sets = [] }
 
--- the row of one of its acts, where a next instance is of its tab
+-- the outcome of one of its acts where it lives; a next instance is of its tab
 abbrev pub own_outcome : HostTable → List ℕ → Act → Mine → Outcome
 own_outcome H o (CookieSet side who text) m = set_outcome text m.sets
 own_outcome H o (CookieGet side who) m = get_outcome who m.sets

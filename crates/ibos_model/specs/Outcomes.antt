@@ -1,4 +1,4 @@
--- The outcome of each act: the first broken rule of its row, or the row's items.
+-- The outcome of each act: its first broken rule, or its items.
 use Rattle.std.specs.Prelude.{ℕ, ◌+◌, ◌-◌, zero, suc, List, [], ◌∷◌, not, nat_lt, Ok, Err, Result, Option, Some, None, bytes_eq, if◌then◌else◌}
 use Rattle.ibos_kinds.specs.declared.names.Instance.{Instance}
 use Rattle.ibos_kinds.specs.declared.party.Party.{Party}
@@ -104,7 +104,7 @@ click_outcome active row col =
     else if nat_lt row chrome_rows then accepted []
     else content_click_outcome active (row - chrome_rows) col
 
--- rows from one of that number on
+-- rows of the screen, from one of that number on
 abbrev pub rows_from : ℕ → ℕ → (ℕ → List ℕ) → List Item
 rows_from r zero f = []
 rows_from r (suc n) f = RowIs r (f r) ∷ rows_from (r + 1) n f
@@ -115,7 +115,7 @@ look_outcome f = accepted (rows_from 0 (chrome_rows + content_rows) f)
 abbrev pub draw_outcome : ℕ → ℕ → ℕ → ℕ → List ℕ → Outcome
 draw_outcome row col height width pixels = answer (draw_breaks row col height width pixels)
 
--- the row of an act after a journal, where its actor may act
+-- the outcome of an act after a journal, where its actor may act
 abbrev pub act_outcome : HostTable → Journal → Act → Outcome
 act_outcome H J (Start tab url) = start_outcome ((tabs H J).live tab) (next_in (tabs H J) tab) (allowed H url)
 act_outcome H J (Switch tab) = switch_outcome ((tabs H J).live tab)

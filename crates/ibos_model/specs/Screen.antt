@@ -16,12 +16,12 @@ chrome_byte b = if is_pixel b then b else 63
 abbrev pub place_text : Bool → List ℕ
 place_text at_entry_line = if at_entry_line then codes " entry" else codes " page"
 
--- row 0: the active instance, and where keys go
+-- row 0, the state: which instance is active, and what gets the keys
 unfoldable pub state_text : Option Instance → Bool → List ℕ
 state_text None at_entry_line = codes "no tab"
 state_text (Some who) at_entry_line = codes "tab " ++ decimal who.tab ++ codes "." ++ decimal who.ord ++ place_text at_entry_line
 
--- row 1, the address bar: a URL, or its first 79 bytes and `>`
+-- row 1, the address bar: the URL, cut where it is too long, which a `>` in the last cell says
 unfoldable pub bar_text : List ℕ → List ℕ
 bar_text url = map chrome_byte (if nat_lt columns (length url) then take 79 url ++ codes ">" else url)
 
@@ -29,7 +29,7 @@ abbrev pub bar_of : Tabs → Option Instance → List ℕ
 bar_of t None = []
 bar_of t (Some who) = bar_text (t.url who)
 
--- row 2, the entry line: its text, or `<` and its last 79 bytes
+-- row 2, the entry line: the end of what is typed, with a `<` in the first cell where there is more
 unfoldable pub entry_line_text : List ℕ → List ℕ
 entry_line_text entry = map chrome_byte (if nat_lt columns (length entry) then codes "<" ++ drop (length entry - 79) entry else entry)
 
