@@ -4,7 +4,7 @@ use Rattle.ibos_kinds.specs.declared.act.Act.{Act}
 use Rattle.ibos_script.specs.Printed.{outcome_text}
 use Rattle.ibos_origin.specs.Hosts.{HostTable}
 use Rattle.ibos_model.specs.Journal.{Entry, Journal, heard}
-use Rattle.ibos_model.specs.Rows.{out}
+use Rattle.ibos_model.specs.Outcomes.{out}
 use Rattle.ibos_model.specs.Runs.{GoesOn, IsRun, entry_of, run, run_from}
 use Rattle.ibos_model.specs.Text.{text_of}
 use Rattle.ibos_model.specs.Laws.{AreFronts, DoGoOn}

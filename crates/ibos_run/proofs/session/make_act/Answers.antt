@@ -2,7 +2,7 @@ use Rattle.std.proofs.Common.{◌≡◌, ◌+◌, ◌++◌, arith, length, refl,
 use Rattle.ibos_kinds.specs.declared.outcome.Outcome.{Outcome}
 use Rattle.ibos_script.specs.Printed.{IsCutShort, outcome_text}
 use Rattle.ibos_model.specs.Journal.{Journal}
-use Rattle.ibos_model.specs.Rows.{out}
+use Rattle.ibos_model.specs.Outcomes.{out}
 use Rattle.ibos_kernel.specs.Standing.{Stands}
 use Rattle.ibos_run.specs.Took.{TookFront}
 use Rattle.ibos_run.proofs.Taken.{front_cut_short, front_kept, on_err}
