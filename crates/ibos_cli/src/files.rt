@@ -6,8 +6,8 @@ use ibos_kinds::{Bytes, Cabinet, Failed};
 use std::io::{self, Read, Seek, SeekFrom};
 use std::rt::Files;
 
-/// The files of the system, by their paths. It tells nothing of their bytes, and counts the reads that
-/// fail, of all names together.
+/// The files of the system, by their paths. It tells nothing of their bytes, and counts the reads
+/// that fail, of all names together.
 #[derive(Drop)]
 pub struct FileCabinet<'a, R: Files> {
     rt: &'a R,

@@ -1,5 +1,5 @@
-//! The program `ibos`: hands the words of its command line, files and standard output to the top call,
-//! and ends with its status.
+//! The program `ibos`: hands the words of its command line, files and standard output to the top
+//! call, and ends with its status.
 #![tactic(auto)]
 
 mod faults;
@@ -57,7 +57,8 @@ fn words_of(rt: &(impl Env + AllocGlobal)) -> Result<Vec<Bytes>, WordsFault> {
     Ok(words)
 }
 
-// The exit number where the runtime refuses the words for another cause than that it is out of memory.
+// The exit number where the runtime refuses the words for another cause than that it is out of
+// memory.
 const WORDS_REFUSED: u8 = 7;
 
 fn main(rt: HostRuntime) -> ExitCode {

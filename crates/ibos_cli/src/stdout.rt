@@ -6,8 +6,8 @@ use crate::faults::Faults;
 use ibos_kinds::{Failed, Sink};
 use std::io::{self, Write};
 
-/// Standard output. It tells nothing of the bytes that it took, and counts the writes that fail; one that
-/// takes nothing of a piece that isn't empty is one of them.
+/// Standard output. It tells nothing of the bytes that it took, and counts the writes that fail;
+/// one that takes nothing of a piece that isn't empty is one of them.
 #[derive(Drop)]
 pub struct StdoutSink<'a, R: Print> {
     rt: &'a R,

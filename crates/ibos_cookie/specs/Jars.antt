@@ -1,5 +1,6 @@
 -- Cookie jars by origin, and what a set makes of them.
-use Rattle.std.specs.Prelude.{◌≡◌, ℕ, List, [], ◌∷◌, ◌++◌, ◌==◌, length, map, codes, bytes_eq, if◌then◌else◌}
+use Rattle.std.specs.Prelude.{◌≡◌, ℕ, List, [], ◌∷◌, ◌++◌, ◌==◌, length, map, codes, bytes_eq}
+use Rattle.std.specs.Prelude.{if◌then◌else◌}
 use Rattle.std.specs.Global.{Vec}
 use Rattle.ibos_kinds.specs.declared.cookies.Cookie.{Cookie}
 use Rattle.ibos_kinds.specs.Cookies.{put}
@@ -16,11 +17,14 @@ jar_of (jar ∷ jars) origin = if bytes_eq jar.origin origin then jar.cookies el
 
 -- the jars after a set of an origin: its jar has the set, and all others stay
 abbrev pub SetsIn : List OriginJar → List OriginJar → List ℕ → Cookie → Type 0
-SetsIn old new origin set = (other : List ℕ) → jar_of new other ≡ (if bytes_eq origin other then put set (jar_of old other) else jar_of old other)
+SetsIn old new origin set = (other : List ℕ)
+    → jar_of new other ≡ (if bytes_eq origin other then put set (jar_of old other)
+    else jar_of old other)
 
 -- the jars after an origin is given a jar: it has that one, and all others stay
 abbrev pub PutsJar : List OriginJar → List OriginJar → List ℕ → List Cookie → Type 0
-PutsJar old new origin jar = (other : List ℕ) → jar_of new other ≡ (if bytes_eq origin other then jar else jar_of old other)
+PutsJar old new origin jar = (other : List ℕ)
+    → jar_of new other ≡ (if bytes_eq origin other then jar else jar_of old other)
 
 -- the jars that a table by origin holds, in its order
 abbrev pub origin_jars : List (Vec ℕ × List Cookie) → List OriginJar
@@ -32,4 +36,5 @@ named_cookies entries = map (λ entry. record { name = entry.0.items; value = en
 
 -- a text with one pair more
 abbrev pub joined : List ℕ → Cookie → List ℕ
-joined text cookie = (if length text == 0 then text else text ++ codes "; ") ++ cookie.name ++ codes "=" ++ cookie.value
+joined text cookie = (if length text == 0 then text else text ++ codes "; ") ++ cookie.name
+    ++ codes "=" ++ cookie.value

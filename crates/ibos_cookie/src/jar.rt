@@ -1,5 +1,6 @@
 // The jar of one origin.
-ghost use Rattle.std.specs.Prelude.{◌≡◌, ◌≤◌, ◌+◌, [], ◌||◌, false, nat_lt, length, IfOk, OnOk, OnErr};
+ghost use Rattle.std.specs.Prelude.{◌≡◌, ◌≤◌, ◌+◌, [], ◌||◌, false, nat_lt, length, IfOk, OnOk};
+ghost use Rattle.std.specs.Prelude.{OnErr};
 ghost use Rattle.ibos_kinds.specs.Cookies.{cookie_in, set_breaks, jar_text, is_over, put};
 ghost use Rattle.ibos_cookie.specs.Jars.{joined};
 ghost use Rattle.ibos_cookie.specs.Faults.{Answers};
@@ -15,8 +16,8 @@ const MAX_COOKIES: usize = 20;
 
 const MAX_BYTES: usize = 4096;
 
-/// The cookies of one origin: the values by their names, in the order in which the names were first set,
-/// and how many bytes both have together.
+/// The cookies of one origin: the values by their names, in the order in which the names were first
+/// set, and how many bytes both have together.
 #[derive(Drop)]
 pub struct Jar {
     values: IndexMap<Vec<u8>, Bytes>,
@@ -33,7 +34,8 @@ impl Model for Jar {
 
     ghost view = { λ j. named_cookies j.values.entries };
 
-    ghost invariant = { λ j. (j.bytes ≡ jar_bytes (named_cookies j.values.entries)) × (is_over (named_cookies j.values.entries) ≡ false) };
+    ghost invariant = { λ j. (j.bytes ≡ jar_bytes (named_cookies j.values.entries))
+        × (is_over (named_cookies j.values.entries) ≡ false) };
 }
 
 impl Jar {

@@ -1,4 +1,5 @@
-//! What came in and what went out, for the contracts alone. It takes no memory, and its methods do nothing when they run.
+//! What came in and what went out, for the contracts alone. It takes no memory, and its methods do
+//! nothing when they run.
 ghost use Rattle.std.specs.Prelude.{◌≡◌, List, [], ◌∷◌};
 ghost use Rattle.std.specs.Borrow.{ftrue};
 ghost use Rattle.ibos_nic.specs.declared.log.LogEntry.{LogEntry};

@@ -3,7 +3,8 @@ ghost use Rattle.std.specs.Prelude.{◌≡◌, ◌≤◌, ◌∷◌, length};
 ghost use Rattle.ibos_pool.specs.declared.limits.TheConstants.{DESCRIPTOR_BYTES};
 ghost use Rattle.ibos_nic.specs.declared.limits.TheConstants.{MOST_FRAME};
 ghost use Rattle.ibos_nic.specs.declared.log.LogEntry.TheVariants.{Out};
-ghost use Rattle.ibos_nic.specs.Device.{IsLentFrom, IsReceived, IsTransmitted, MayReceive, MayTransmit, frame_at, rx_at, tx_at};
+ghost use Rattle.ibos_nic.specs.Device.{IsLentFrom, IsReceived, IsTransmitted, MayReceive};
+ghost use Rattle.ibos_nic.specs.Device.{MayTransmit, frame_at, rx_at, tx_at};
 
 use crate::history::History;
 use ibos_nic::{DONE, END_OF_PACKET, RxDesc, TxDesc};

@@ -3,8 +3,11 @@ ghost use Rattle.std.specs.Prelude.{◌≡◌, List, ℕ, [], ◌∷◌, refl, I
 ghost use Rattle.ibos_nic.specs.declared.reg.Reg.{Reg};
 ghost use Rattle.ibos_nic.specs.declared.log.LogEntry.TheVariants.{In, Out};
 ghost use Rattle.std.specs.Result.{IsOk};
-ghost use Rattle.ibos_nic.specs.Registers.{can_receive, can_transmit, receive_head, reset, transmit_head};
-ghost use Rattle.ibos_nic.specs.Device.{IsReceived, IsTransmitted, MayReceive, MayTransmit, OnHeard, OnSent, OnUnheard, OnUnsent, after_arrive, after_transmit, frame_at, verdict_of};
+ghost use Rattle.ibos_nic.specs.Registers.{can_receive, can_transmit, receive_head, reset};
+ghost use Rattle.ibos_nic.specs.Registers.{transmit_head};
+ghost use Rattle.ibos_nic.specs.Device.{IsReceived, IsTransmitted, MayReceive, MayTransmit};
+ghost use Rattle.ibos_nic.specs.Device.{OnHeard, OnSent, OnUnheard, OnUnsent, after_arrive};
+ghost use Rattle.ibos_nic.specs.Device.{after_transmit, frame_at, verdict_of};
 ghost use Rattle.ibos_device.specs.Cards.{regs_of};
 
 use crate::card::Card;
@@ -14,8 +17,8 @@ use ibos_pool::Mem;
 use std::alloc::Global;
 use std::marker::Model;
 
-/// A model of the Intel 8254x. What it writes for a frame is that frame. Its log is there for contracts alone, so it takes
-/// no memory, however much comes and goes.
+/// A model of the Intel 8254x. What it writes for a frame is that frame. Its log is there for
+/// contracts alone, so it takes no memory, however much comes and goes.
 #[derive(Drop)]
 pub struct Model8254x {
     card: Card,
@@ -72,10 +75,14 @@ impl Nic for Model8254x {
     }
 
     fn arrive(&mut self, _alloc: Global, frame: &[u8], mem: &mut Mem) -> Result<Verdict, Memory>
-        requires { IsTrue (can_receive (regs_of self.old)) → MayReceive mem.old (receive_head (regs_of self.old)) }
-        ensures verdict { IfOk result (λ verdict. verdict ≡ verdict_of (regs_of self.old) frame.now) }
-        ensures registers { (r : Reg) → regs_of self.new r ≡ after_arrive result (regs_of self.old) r }
-        ensures heard { OnHeard result ((written : List ℕ) × (self.new.log ≡ In frame.now written ∷ self.old.log)
+        requires { IsTrue (can_receive (regs_of self.old))
+            → MayReceive mem.old (receive_head (regs_of self.old)) }
+        ensures verdict { IfOk result (λ verdict.
+            verdict ≡ verdict_of (regs_of self.old) frame.now) }
+        ensures registers { (r : Reg) → regs_of self.new r
+            ≡ after_arrive result (regs_of self.old) r }
+        ensures heard { OnHeard result ((written : List ℕ)
+            × (self.new.log ≡ In frame.now written ∷ self.old.log)
             × IsReceived mem.old mem.new (receive_head (regs_of self.old)) written) }
         ensures unheard_log { OnUnheard result (self.new.log ≡ self.old.log) }
         ensures unheard_memory { OnUnheard result (mem.new ≡ mem.old) }
@@ -90,11 +97,15 @@ impl Nic for Model8254x {
     }
 
     fn transmit(&mut self, _alloc: Global, mem: &mut Mem) -> Result<bool, Memory>
-        requires { IsTrue (can_transmit (regs_of self.old)) → MayTransmit mem.old (transmit_head (regs_of self.old)) }
+        requires { IsTrue (can_transmit (regs_of self.old))
+            → MayTransmit mem.old (transmit_head (regs_of self.old)) }
         ensures sent { IfOk result (λ sent. sent ≡ can_transmit (regs_of self.old)) }
-        ensures registers { (r : Reg) → regs_of self.new r ≡ after_transmit result (regs_of self.old) r }
-        ensures sent_log { OnSent result (self.new.log ≡ Out (frame_at mem.old (transmit_head (regs_of self.old))) ∷ self.old.log) }
-        ensures sent_memory { OnSent result (IsTransmitted mem.old mem.new (transmit_head (regs_of self.old))) }
+        ensures registers { (r : Reg) → regs_of self.new r
+            ≡ after_transmit result (regs_of self.old) r }
+        ensures sent_log { OnSent result (self.new.log
+            ≡ Out (frame_at mem.old (transmit_head (regs_of self.old))) ∷ self.old.log) }
+        ensures sent_memory { OnSent result
+            (IsTransmitted mem.old mem.new (transmit_head (regs_of self.old))) }
         ensures unsent_log { OnUnsent result (self.new.log ≡ self.old.log) }
         ensures unsent_memory { OnUnsent result (mem.new ≡ mem.old) }
 

@@ -37,7 +37,8 @@ fn may_receive(mem: &Mem, slot: u32) -> bool
 
 // Whether the device has no descriptor for a frame, or has one that names a buffer that is lent.
 fn may_arrive<N: Nic>(nic: &mut N, mem: &Mem) -> bool
-    ensures { IsTrue result → IsTrue (can_receive (N.regs nic.new)) → MayReceive mem.now (receive_head (N.regs nic.new)) }
+    ensures { IsTrue result → IsTrue (can_receive (N.regs nic.new))
+        → MayReceive mem.now (receive_head (N.regs nic.new)) }
 {
     let control = nic.read(Reg::Rctl);
     let base = nic.read(Reg::Rdbal);
@@ -259,7 +260,8 @@ fn may_send(mem: &Mem, slot: u32) -> bool
 
 // Whether the device has nothing to send, or may send what its descriptor names.
 fn may_transmit<N: Nic>(nic: &mut N, mem: &Mem) -> bool
-    ensures { IsTrue result → IsTrue (can_transmit (N.regs nic.new)) → MayTransmit mem.now (transmit_head (N.regs nic.new)) }
+    ensures { IsTrue result → IsTrue (can_transmit (N.regs nic.new))
+        → MayTransmit mem.now (transmit_head (N.regs nic.new)) }
 {
     let control = nic.read(Reg::Tctl);
     let base = nic.read(Reg::Tdbal);

@@ -1,6 +1,7 @@
 // A frame's header, and what it carries.
 ghost use Rattle.std.specs.Prelude.{◌≡◌, ◌+◌, ◌≤◌, None, Some, length, drop, IfOk, IfErr};
-ghost use Rattle.ibos_kinds.specs.Frames.{number, eth_dest, eth_source, eth_type, eth_payload, eth_broken};
+ghost use Rattle.ibos_kinds.specs.Frames.{number, eth_dest, eth_source, eth_type, eth_payload};
+ghost use Rattle.ibos_kinds.specs.Frames.{eth_broken};
 
 use byteorder::{BigEndian, ByteOrder};
 use ibos_kinds::Rule;
@@ -26,8 +27,8 @@ impl<'a> Model for EthView<'a> {
 }
 
 impl<'a> EthView<'a> {
-    /// Views a frame, of any length. It is refused with F1 where it is shorter than the header, and with
-    /// F2 where its type is not that of IPv4.
+    /// Views a frame, of any length. It is refused with F1 where it is shorter than the header, and
+    /// with F2 where its type is not that of IPv4.
     #[tactic(auto, unfolding(ibos_kinds::specs::Frames::eth_broken))]
     pub fn new(frame: &'a [u8]) -> Result<EthView<'a>, Rule>
         ensures ok { IfOk result (λ view. (eth_broken frame.now ≡ None) × (view ≡ frame.now)) }

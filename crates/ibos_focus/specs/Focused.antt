@@ -1,5 +1,6 @@
 -- The entry line, and where keys and clicks go.
-use Rattle.std.specs.Prelude.{ℕ, ◌-◌, List, Bool, ◌==◌, not, nat_lt, Option, Some, None, Result, Ok, Err, is_some, if◌then◌else◌}
+use Rattle.std.specs.Prelude.{ℕ, ◌-◌, List, Bool, ◌==◌, not, nat_lt, Option, Some, None, Result, Ok}
+use Rattle.std.specs.Prelude.{Err, is_some, if◌then◌else◌}
 use Rattle.ibos_kinds.specs.declared.names.Key.{Key}
 use Rattle.ibos_kinds.specs.declared.names.Key.TheVariants.{Enter}
 use Rattle.ibos_kinds.specs.declared.rule.Rule.{Rule}
@@ -11,7 +12,8 @@ use Rattle.ibos_focus.specs.declared.focus.Spot.TheVariants.{Entry, Content}
 use Rattle.ibos_focus.specs.declared.focus.KeyDone.{KeyDone}
 use Rattle.ibos_focus.specs.declared.focus.KeyDone.TheVariants.{ToPage, Edited, Enter as Entered}
 use Rattle.ibos_focus.specs.declared.focus.ClickDone.{ClickDone}
-use Rattle.ibos_focus.specs.declared.focus.ClickDone.TheVariants.{Chrome, Entry as OnEntry, Content as OnContent}
+use Rattle.ibos_focus.specs.declared.focus.ClickDone.TheVariants.{Chrome, Entry as OnEntry}
+use Rattle.ibos_focus.specs.declared.focus.ClickDone.TheVariants.{Content as OnContent}
 
 -- the bytes of the entry line, and whether keys go there or to the content
 pub record Focused : Type 0 where
@@ -49,7 +51,8 @@ after_key f key = record f { entry_line = entry_after f.spot f.entry_line key }
 abbrev pub entry_row : ℕ
 entry_row = 2
 
--- the answer to a click; the rows of the content ask for an active tab, and are told as the content counts them
+-- the answer to a click; the rows of the content ask for an active tab, and are told as the content
+-- counts them
 abbrev pub click_of : (row col : ℕ) → Bool → Result ClickDone Rule
 click_of row col active =
     if not (is_on_screen row col) then Err U12

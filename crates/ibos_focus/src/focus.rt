@@ -19,8 +19,8 @@ pub enum Spot {
     Content,
 }
 
-/// What a key did: it goes to the active instance as this byte, it changed the entry line, or it is an
-/// Enter at the entry line, which stays.
+/// What a key did: it goes to the active instance as this byte, it changed the entry line, or it is
+/// an Enter at the entry line, which stays.
 #[derive(Clone, Copy, Debug, PartialEq, Eq)]
 pub enum KeyDone {
     ToPage(u8),
@@ -28,8 +28,8 @@ pub enum KeyDone {
     Enter,
 }
 
-/// Where a click fell: on the chrome's first rows, on the entry line, or on the content, at this row and
-/// column of it.
+/// Where a click fell: on the chrome's first rows, on the entry line, or on the content, at this
+/// row and column of it.
 #[derive(Clone, Copy, Debug, PartialEq, Eq)]
 pub enum ClickDone {
     Chrome,

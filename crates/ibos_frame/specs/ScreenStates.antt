@@ -1,5 +1,7 @@
 -- The screen: three rows of chrome over the content of the instance that is shown.
-use Rattle.std.specs.Prelude.{ℕ, ◌+◌, ◌-◌, ◌*◌, List, take, drop, replicate, Bool, nat_lt, slice_index, Option, Some, None, Result, Ok, Err, option_and_then, unwrap_or, is_some, if◌then◌else◌}
+use Rattle.std.specs.Prelude.{ℕ, ◌+◌, ◌-◌, ◌*◌, List, take, drop, replicate, Bool, nat_lt}
+use Rattle.std.specs.Prelude.{slice_index, Option, Some, None, Result, Ok, Err, option_and_then}
+use Rattle.std.specs.Prelude.{unwrap_or, is_some, if◌then◌else◌}
 use Rattle.std.specs.List.{slice_index_or}
 use Rattle.ibos_kinds.specs.declared.names.Instance.{Instance}
 use Rattle.ibos_kinds.specs.declared.rule.Rule.{Rule}
@@ -17,7 +19,8 @@ abbrev pub place_of : Instance → ℕ
 place_of who = 256 * who.ord + who.tab
 
 unfoldable pub content_in : List (Option (List ℕ)) → Instance → Option (List ℕ)
-content_in contents who = if nat_lt who.tab 256 then slice_index_or contents (place_of who) None else None
+content_in contents who = if nat_lt who.tab 256 then slice_index_or contents (place_of who) None
+    else None
 
 -- the content of an instance, its rows one after the other
 abbrev pub content_of : ScreenState → Instance → Option (List ℕ)
@@ -49,7 +52,8 @@ chrome_at f r = line_of f.chrome r
 
 -- row r of 0 to 24, column c of the screen: the chrome's rows, and then those of the content shown
 unfoldable pub seen_at : ScreenState → ℕ → ℕ → ℕ
-seen_at f r c = if nat_lt r chrome_rows then slice_index (chrome_at f r) c else pixel_in (shown_content f) (r - chrome_rows) c
+seen_at f r c = if nat_lt r chrome_rows then slice_index (chrome_at f r) c
+    else pixel_in (shown_content f) (r - chrome_rows) c
 
 -- the answer of a call that breaks a rule, or none
 abbrev pub answer_of : Option Rule → Result Unit Rule
@@ -58,7 +62,8 @@ answer_of (Some rule) = Err rule
 
 -- what rows 3 to 24 hold
 abbrev pub body_of : List (Option (List ℕ)) → Option Instance → List ℕ
-body_of contents shown = unwrap_or (option_and_then (content_in contents) shown) (replicate 1760 space)
+body_of contents shown = unwrap_or (option_and_then (content_in contents) shown)
+    (replicate 1760 space)
 
 -- the pixels of rows 0 to 2, and of rows 3 to 24
 pub record Seen : Type 0 where

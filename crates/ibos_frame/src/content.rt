@@ -1,5 +1,6 @@
 // What one instance has drawn.
-ghost use Rattle.std.specs.Prelude.{◌≡◌, ℕ, ◌+◌, ◌*◌, ◌<◌, ◌≤◌, length, replicate, slice_index, IfOk};
+ghost use Rattle.std.specs.Prelude.{◌≡◌, ℕ, ◌+◌, ◌*◌, ◌<◌, ◌≤◌, length, replicate, slice_index};
+ghost use Rattle.std.specs.Prelude.{IfOk};
 ghost use Rattle.ibos_kinds.specs.Screens.{content_rows, columns, space, cell_after};
 
 use ibos_kinds::{COLUMNS, CONTENT_ROWS, Memory};

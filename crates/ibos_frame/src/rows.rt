@@ -1,5 +1,6 @@
 // The rows that are seen.
-ghost use Rattle.std.specs.Prelude.{◌≡◌, ◌≢◌, ℕ, ◌+◌, ◌*◌, ◌<◌, ◌≤◌, ◌++◌, length, take, drop, replicate, IfOk};
+ghost use Rattle.std.specs.Prelude.{◌≡◌, ◌≢◌, ℕ, ◌+◌, ◌*◌, ◌<◌, ◌≤◌, ◌++◌, length, take, drop};
+ghost use Rattle.std.specs.Prelude.{replicate, IfOk};
 ghost use Rattle.ibos_kinds.specs.Screens.{columns, padded, space};
 ghost use Rattle.ibos_frame.specs.ScreenStates.{line_of};
 

@@ -1,8 +1,11 @@
 // The contents of all instances, and what of them is seen.
-ghost use Rattle.std.specs.Prelude.{◌≡◌, ◌≢◌, ◌↔◌, ℕ, ◌+◌, ◌*◌, ◌<◌, ◌≤◌, ◌++◌, length, take, replicate, slice_index, true, false, None, Some, IfOk, OnOk, OnErr, IfSome, IsTrue};
+ghost use Rattle.std.specs.Prelude.{◌≡◌, ◌≢◌, ◌↔◌, ℕ, ◌+◌, ◌*◌, ◌<◌, ◌≤◌, ◌++◌, length, take};
+ghost use Rattle.std.specs.Prelude.{replicate, slice_index, true, false, None, Some, IfOk, OnOk};
+ghost use Rattle.std.specs.Prelude.{OnErr, IfSome, IsTrue};
 ghost use Rattle.std.specs.List.{list_all};
 ghost use Rattle.ibos_kinds.specs.declared.names.Instance.{Instance};
-ghost use Rattle.ibos_kinds.specs.Screens.{columns, content_rows, space, is_pixel, draw_breaks, cell_after, padded};
+ghost use Rattle.ibos_kinds.specs.Screens.{columns, content_rows, space, is_pixel, draw_breaks};
+ghost use Rattle.ibos_kinds.specs.Screens.{cell_after, padded};
 ghost use Rattle.ibos_kinds.specs.Screens as spec;
 ghost use Rattle.ibos_frame.specs.ScreenStates.{answer_of, body_of, content_in};
 
@@ -38,7 +41,8 @@ impl Model for Screen {
 }
 
 impl Screen {
-    ghost use Rattle.ibos_frame.specs.ScreenStates.{content_of, content_at, is_open, chrome_at, seen_at};
+    ghost use Rattle.ibos_frame.specs.ScreenStates.{content_of, content_at, is_open, chrome_at};
+    ghost use Rattle.ibos_frame.specs.ScreenStates.{seen_at};
 
     /// A blank screen, and no contents.
     pub fn new(alloc: Global) -> Result<Screen, Memory>

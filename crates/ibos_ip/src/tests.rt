@@ -128,7 +128,8 @@ fn fragments_are_refused(rt: HostRuntime) {
         b"\x45\x00\x00\x14\x00\x00\x80\x00\x40\x11\x0e\x99\xc6\x33\x64\x02\xc0\x00\x02\x0a",
     ];
     for (bit, bytes) in table.iter().enumerate() {
-        // Of the three flags at the top two are no fragment's: the reserved one, and that which forbids any.
+        // Of the three flags at the top two are no fragment's: the reserved one, and that which
+        // forbids any.
         let rule = if bit < 14 { Some(Rule::F7) } else { None };
         assert_eq!(rt; IpView::new(bytes, Dir::In).err(), rule, "bit {bit}");
     }

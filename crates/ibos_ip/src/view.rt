@@ -1,6 +1,9 @@
 // A datagram's header, what it carries, and what follows it.
-ghost use Rattle.std.specs.Prelude.{◌≡◌, ◌+◌, ◌*◌, ◌%◌, ◌==◌, ◌≤◌, not, None, Some, length, drop, IfOk, IfErr};
-ghost use Rattle.ibos_kinds.specs.Frames.{number, ip_version, ip_words, ip_total, ip_fragment, ip_protocol, ip_src, ip_dst, ip_payload, ip_tail, is_equal_out, is_ip_form, ip_broken};
+ghost use Rattle.std.specs.Prelude.{◌≡◌, ◌+◌, ◌*◌, ◌%◌, ◌==◌, ◌≤◌, not, None, Some, length, drop};
+ghost use Rattle.std.specs.Prelude.{IfOk, IfErr};
+ghost use Rattle.ibos_kinds.specs.Frames.{number, ip_version, ip_words, ip_total, ip_fragment};
+ghost use Rattle.ibos_kinds.specs.Frames.{ip_protocol, ip_src, ip_dst, ip_payload, ip_tail};
+ghost use Rattle.ibos_kinds.specs.Frames.{is_equal_out, is_ip_form, ip_broken};
 
 use byteorder::{BigEndian, ByteOrder};
 use ibos_kinds::{Dir, Rule, sum16};
@@ -14,7 +17,8 @@ const WORDS: u8 = 5;
 // Of the word that has flags and fragment offset: more fragments, and the offset.
 const FRAGMENT: u16 = 0x3FFF;
 
-/// An IPv4 datagram (RFC 791) that is whole, and what follows it, borrowed. Contracts see the bytes.
+/// An IPv4 datagram (RFC 791) that is whole, and what follows it, borrowed. Contracts see the
+/// bytes.
 #[derive(Debug, Drop)]
 pub struct IpView<'a> {
     bytes: &'a [u8],
@@ -32,9 +36,10 @@ impl<'a> Model for IpView<'a> {
 }
 
 impl<'a> IpView<'a> {
-    /// Views the payload of a frame. It is refused with F5 where its header has not the form of one, or
-    /// its lengths don't fit each other and the payload, with F6 where the header's checksum is wrong, and
-    /// with F7 where it is a fragment. What goes out is refused with F5 where it has options, too.
+    /// Views the payload of a frame. It is refused with F5 where its header has not the form of
+    /// one, or its lengths don't fit each other and the payload, with F6 where the header's
+    /// checksum is wrong, and with F7 where it is a fragment. What goes out is refused with F5
+    /// where it has options, too.
     #[tactic(auto, unfolding(ibos_kinds::specs::Frames::ip_broken))]
     pub fn new(bytes: &'a [u8], dir: Dir) -> Result<IpView<'a>, Rule>
         ensures ok { IfOk result (λ view. (ip_broken dir bytes.now ≡ None) × (view ≡ bytes.now)) }

@@ -1,5 +1,6 @@
 -- Tables that stand for a journal.
-use Rattle.std.specs.Prelude.{ℕ, ◌≡◌, ◌+◌, ◌<◌, ◌≤◌, List, [], true, false, length, Some, nat_lt, if◌then◌else◌}
+use Rattle.std.specs.Prelude.{ℕ, ◌≡◌, ◌+◌, ◌<◌, ◌≤◌, List, [], true, false, length, Some, nat_lt}
+use Rattle.std.specs.Prelude.{if◌then◌else◌}
 use Rattle.ibos_kinds.specs.declared.names.Instance.{Instance}
 use Rattle.ibos_kinds.specs.declared.act.Act.{Act}
 use Rattle.ibos_kinds.specs.declared.outcome.Outcome.{Outcome}
@@ -14,7 +15,8 @@ use Rattle.ibos_model.specs.Focus.{active_tab, focus_of}
 use Rattle.ibos_model.specs.Screen.{cell_of}
 use Rattle.ibos_model.specs.Jars.{jar, sets_of}
 use Rattle.ibos_model.specs.Runs.{IsRun}
-use Rattle.ibos_kernel.specs.Tables.{Tables, Parts, IsTied, is_entry, is_live, origin_at, parts_of, url_with}
+use Rattle.ibos_kernel.specs.Tables.{Tables, Parts, IsTied, is_entry, is_live, origin_at, parts_of}
+use Rattle.ibos_kernel.specs.Tables.{url_with}
 
 -- whether an instance lives, by its tab's seat
 abbrev pub life_by : Instance → Seat → Life
@@ -31,18 +33,22 @@ pub record TabsStand (T : Tabs) (t : TabTable) : Type 0 where
   pub room : length t.seats ≡ 64
   pub count : (tab : ℕ) → T.count tab ≡ (seat_at t tab).count
   pub live : (tab : ℕ) → T.live tab ≡ live_at t tab
-  pub newest : (tab : ℕ) (who : Instance) → live_at t tab ≡ Some who → who.ord + 1 ≡ (seat_at t tab).count
+  pub newest : (tab : ℕ) (who : Instance) → live_at t tab ≡ Some who
+      → who.ord + 1 ≡ (seat_at t tab).count
   pub life : (who : Instance) → life_in T who ≡ life_at t who
   pub fresh : (who : Instance) → (seat_at t who.tab).count ≤ who.ord → T.is_gone who ≡ false
   pub origin : (who : Instance) → live_at t who.tab ≡ Some who → origin_in T who ≡ origin_at t who
-  pub url : (who : Instance) → live_at t who.tab ≡ Some who → T.url who ≡ url_with (seat_at t who.tab).page
+  pub url : (who : Instance) → live_at t who.tab ≡ Some who
+      → T.url who ≡ url_with (seat_at t who.tab).page
 
 -- the screen's parts stand for what the journal's views of focus and screen say
 pub record Displays (J : Journal) (t : Parts) : Type 0 where
   pub spot : (focus_of J).at_entry_line ≡ is_entry t.focus.spot
   pub entry_line : (focus_of J).entry_line ≡ t.focus.entry_line
-  pub cells : (q : Instance) (r c : ℕ) → r < 22 → c < 80 → is_live t.tabs q ≡ true → content_at t.screen q r c ≡ cell_of J q r c
-  pub blank : (q : Instance) (r c : ℕ) → (seat_at t.tabs q.tab).count ≤ q.ord → cell_of J q r c ≡ space
+  pub cells : (q : Instance) (r c : ℕ) → r < 22 → c < 80 → is_live t.tabs q ≡ true
+      → content_at t.screen q r c ≡ cell_of J q r c
+  pub blank : (q : Instance) (r c : ℕ) → (seat_at t.tabs q.tab).count ≤ q.ord
+      → cell_of J q r c ≡ space
   pub tied : IsTied t.tabs t.screen t.focus
 
 -- the kernel's parts stand for a journal, which is that of a run

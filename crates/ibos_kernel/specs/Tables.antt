@@ -1,13 +1,17 @@
 -- The kernel's tables, and what each act makes of them.
-use Rattle.std.specs.Prelude.{◌≡◌, ℕ, ◌+◌, ◌<◌, zero, length, suc, List, [], ◌∷◌, Bool, true, false, ◌&&◌, is_some, bytes_eq, Option, Some, None, Result, Ok, Err, if◌then◌else◌}
+use Rattle.std.specs.Prelude.{◌≡◌, ℕ, ◌+◌, ◌<◌, zero, length, suc, List, [], ◌∷◌, Bool, true, false}
+use Rattle.std.specs.Prelude.{◌&&◌, is_some, bytes_eq, Option, Some, None, Result, Ok, Err}
+use Rattle.std.specs.Prelude.{if◌then◌else◌}
 use Rattle.ibos_kinds.specs.declared.cookies.Cookie.{Cookie}
 use Rattle.ibos_kinds.specs.Cookies.{cookie_in, jar_text, put, set_breaks}
 use Rattle.ibos_kinds.specs.declared.names.Instance.{Instance}
 use Rattle.ibos_kinds.specs.declared.rule.Rule.{Rule}
 use Rattle.ibos_kinds.specs.declared.act.Act.{Act}
-use Rattle.ibos_kinds.specs.declared.act.Act.TheVariants.{Start, Switch, Close, Press, Click, Look, Go, Draw, CookieSet, CookieGet}
+use Rattle.ibos_kinds.specs.declared.act.Act.TheVariants.{Start, Switch, Close, Press, Click, Look}
+use Rattle.ibos_kinds.specs.declared.act.Act.TheVariants.{Go, Draw, CookieSet, CookieGet}
 use Rattle.ibos_kinds.specs.declared.outcome.Outcome.{Outcome}
-use Rattle.ibos_kinds.specs.declared.outcome.Item.TheVariants.{Opened, Moved as ItemMoved, Ended, Cookies}
+use Rattle.ibos_kinds.specs.declared.outcome.Item.TheVariants.{Opened, Moved as ItemMoved, Ended}
+use Rattle.ibos_kinds.specs.declared.outcome.Item.TheVariants.{Cookies}
 use Rattle.ibos_kinds.specs.declared.rule.Rule.TheVariants.{U2, U10}
 use Rattle.ibos_kinds.specs.declared.names.Key.{Key}
 use Rattle.ibos_kinds.specs.declared.names.Key.TheVariants.{Enter}
@@ -17,9 +21,11 @@ use Rattle.ibos_page.specs.declared.tabs.Moved.{Moved}
 use Rattle.ibos_page.specs.declared.tabs.Moved.TheVariants.{Same, New}
 use Rattle.ibos_origin.specs.Hosts.{HostTable}
 use Rattle.ibos_origin.specs.Pages.{Page, allowed}
-use Rattle.ibos_page.specs.Tabs.{TabTable, seat_at, live_at, active_in, is_live_in, start_in, go_in, opened, moved, closed, with_seat, without, origin_with}
+use Rattle.ibos_page.specs.Tabs.{TabTable, seat_at, live_at, active_in, is_live_in, start_in, go_in}
+use Rattle.ibos_page.specs.Tabs.{opened, moved, closed, with_seat, without, origin_with}
 use Rattle.ibos_route.specs.Parties.{admission_of}
-use Rattle.ibos_frame.specs.ScreenStates.{ScreenState, content_of, content_at, is_open, chrome_at, seen_at}
+use Rattle.ibos_frame.specs.ScreenStates.{ScreenState, content_of, content_at, is_open, chrome_at}
+use Rattle.ibos_frame.specs.ScreenStates.{seen_at}
 use Rattle.ibos_focus.specs.Focused.{Focused}
 use Rattle.ibos_focus.specs.declared.focus.Spot.{Spot}
 use Rattle.ibos_focus.specs.declared.focus.Spot.TheVariants.{Entry, Content}
@@ -27,7 +33,8 @@ use Rattle.ibos_cookie.specs.Jars.{OriginJar, jar_of}
 use Rattle.ibos_model.specs.Journal.{is_ok}
 use Rattle.ibos_model.specs.Focus.{at_entry_line_by, entry_line_by}
 use Rattle.ibos_model.specs.Screen.{cell_by, state_text, bar_text, entry_line_text, seen_row}
-use Rattle.ibos_model.specs.Outcomes.{accepted, denied, answer, open_outcome, close_outcome, page_key_outcome, click_outcome, look_outcome, draw_outcome}
+use Rattle.ibos_model.specs.Outcomes.{accepted, denied, answer, open_outcome, close_outcome}
+use Rattle.ibos_model.specs.Outcomes.{page_key_outcome, click_outcome, look_outcome, draw_outcome}
 
 -- what acts read and change
 pub record Parts : Type 0 where
@@ -49,7 +56,13 @@ pub record Tables : Type 0 where
   pub usable : Bool
 
 abbrev pub parts_of : Tables → Parts
-parts_of t = record { hosts = t.hosts; tabs = t.tabs; jars = t.jars; screen = t.screen; focus = t.focus }
+parts_of t = record {
+  hosts = t.hosts;
+  tabs = t.tabs;
+  jars = t.jars;
+  screen = t.screen;
+  focus = t.focus;
+}
 
 -- ---- the screen beside the tabs
 
@@ -89,7 +102,8 @@ pub record IsComposed (t : TabTable) (screen : ScreenState) (focus : Focused) : 
 -- the contents beside the 64 tabs, whose live instances are the newest
 pub record IsBeside (t : TabTable) (screen : ScreenState) : Type 0 where
   pub room : length t.seats ≡ 64
-  pub newest : (tab : ℕ) (who : Instance) → live_at t tab ≡ Some who → who.ord + 1 ≡ (seat_at t tab).count
+  pub newest : (tab : ℕ) (who : Instance) → live_at t tab ≡ Some who
+      → who.ord + 1 ≡ (seat_at t tab).count
   pub lives : IsOpenWhereLive t screen
 
 -- what the parts of the screen have to do with the tabs
@@ -98,11 +112,14 @@ pub record IsTied (t : TabTable) (screen : ScreenState) (focus : Focused) : Type
   pub composed : IsComposed t screen focus
   pub entry_line : t.active ≡ None → focus.spot ≡ Entry
 
--- contents go with their instances: those that started have an empty one, and those that stayed keep theirs
+-- contents go with their instances: those that started have an empty one, and those that stayed
+-- keep theirs
 pub record ContentsFollow (old new : TabTable) (before after : ScreenState) : Type 0 where
   pub lives : IsOpenWhereLive new after
-  pub kept : (q : Instance) → is_live old q ≡ true → is_live new q ≡ true → content_of after q ≡ content_of before q
-  pub blank : (q : Instance) (r c : ℕ) → r < 22 → c < 80 → is_live old q ≡ false → is_live new q ≡ true → content_at after q r c ≡ space
+  pub kept : (q : Instance) → is_live old q ≡ true → is_live new q ≡ true
+      → content_of after q ≡ content_of before q
+  pub blank : (q : Instance) (r c : ℕ) → r < 22 → c < 80 → is_live old q ≡ false
+      → is_live new q ≡ true → content_at after q r c ≡ space
 
 -- the origin of an instance that lives
 abbrev pub origin_at : TabTable → Instance → List ℕ
@@ -141,19 +158,22 @@ entry_key_at H t entry Enter = enter_at t (active_in t) (allowed H entry)
 entry_key_at H t entry key = answer (key_breaks entry key)
 
 abbrev pub press_at : HostTable → TabTable → Focused → Key → Outcome
-press_at H t f key = if is_entry f.spot then entry_key_at H t f.entry_line key else page_key_outcome (active_in t) key
+press_at H t f key = if is_entry f.spot then entry_key_at H t f.entry_line key
+    else page_key_outcome (active_in t) key
 
 -- the outcome of an act by the tables, where its actor may act
 abbrev pub admitted_outcome : Parts → Act → Outcome
 admitted_outcome t (Start tab url) = started_by (start_in t.tabs tab) (allowed t.hosts url)
-admitted_outcome t (Switch tab) = if is_some (seat_at t.tabs tab).page then accepted [] else denied U2
+admitted_outcome t (Switch tab) = if is_some (seat_at t.tabs tab).page then accepted []
+    else denied U2
 admitted_outcome t (Close tab) = close_outcome (live_at t.tabs tab)
 admitted_outcome t (Press key) = press_at t.hosts t.tabs t.focus key
 admitted_outcome t (Click r c) = click_outcome (active_in t.tabs) r c
 admitted_outcome t Look = look_outcome (seen_row (seen_at t.screen))
 admitted_outcome t (Draw who r c height width pixels) = draw_outcome r c height width pixels
 admitted_outcome t (Go who url) = go_at t.tabs who (allowed t.hosts url)
-admitted_outcome t (CookieSet side who text) = answer (set_breaks text (jar_of t.jars (origin_at t.tabs who)))
+admitted_outcome t (CookieSet side who text) = answer
+    (set_breaks text (jar_of t.jars (origin_at t.tabs who)))
 admitted_outcome t (CookieGet side who) = get_at t.jars (origin_at t.tabs who) who
 
 -- the outcome of an act, by the tables
@@ -162,11 +182,13 @@ outcome_by t act = let_in (admission_of t.tabs act) (admitted_outcome t act)
 
 -- the tabs after an accepted start, and after an accepted move
 abbrev pub with_started : TabTable → ℕ → Result Page Rule → TabTable
-with_started t tab (Ok page) = record (with_seat t tab (opened page (seat_at t tab))) { active = Some tab }
+with_started t tab (Ok page) = record (with_seat t tab (opened page (seat_at t tab)))
+    { active = Some tab }
 with_started t tab (Err rule) = t
 
 abbrev pub with_gone : TabTable → Instance → Result Page Rule → TabTable
-with_gone t who (Ok page) = with_seat t who.tab (if bytes_eq page.origin (origin_at t who) then moved page (seat_at t who.tab) else opened page (seat_at t who.tab))
+with_gone t who (Ok page) = with_seat t who.tab (if bytes_eq page.origin (origin_at t who)
+    then moved page (seat_at t who.tab) else opened page (seat_at t who.tab))
 with_gone t who (Err rule) = t
 
 -- the active instance goes to a page
@@ -175,21 +197,26 @@ with_entered t None r = t
 with_entered t (Some who) r = with_gone t who r
 
 abbrev pub with_pressed : HostTable → TabTable → Focused → Bool → Key → TabTable
-with_pressed H t f ok Enter = if ok && is_entry f.spot then with_entered t (active_in t) (allowed H f.entry_line) else t
+with_pressed H t f ok Enter = if ok && is_entry f.spot
+    then with_entered t (active_in t) (allowed H f.entry_line) else t
 with_pressed H t f ok key = t
 
 -- the tabs after an act, if it is accepted
 abbrev pub tabs_after : Parts → Bool → Act → TabTable
-tabs_after t ok (Start tab url) = if ok then with_started t.tabs tab (allowed t.hosts url) else t.tabs
+tabs_after t ok (Start tab url) = if ok then with_started t.tabs tab (allowed t.hosts url)
+    else t.tabs
 tabs_after t ok (Switch tab) = if ok then record t.tabs { active = Some tab } else t.tabs
-tabs_after t ok (Close tab) = if ok then record (with_seat t.tabs tab (closed (seat_at t.tabs tab))) { active = without tab t.tabs.active } else t.tabs
+tabs_after t ok (Close tab) = if ok
+    then record (with_seat t.tabs tab (closed (seat_at t.tabs tab)))
+    { active = without tab t.tabs.active } else t.tabs
 tabs_after t ok (Press key) = with_pressed t.hosts t.tabs t.focus ok key
 tabs_after t ok (Go who url) = if ok then with_gone t.tabs who (allowed t.hosts url) else t.tabs
 tabs_after t ok other = t.tabs
 
 -- the jar of an origin after an act, if it is accepted
 abbrev pub jar_after : Parts → Bool → Act → List ℕ → List Cookie
-jar_after t ok (CookieSet side who text) o = if ok && bytes_eq (origin_at t.tabs who) o then put (cookie_in text) (jar_of t.jars o) else jar_of t.jars o
+jar_after t ok (CookieSet side who text) o = if ok && bytes_eq (origin_at t.tabs who) o
+    then put (cookie_in text) (jar_of t.jars o) else jar_of t.jars o
 jar_after t ok other o = jar_of t.jars o
 
 -- where keys go and what is typed after an act, if it is accepted
@@ -204,7 +231,8 @@ focus_after t ok act = focus_by t.tabs.active t.focus ok act
 
 -- a cell of an instance that lives after an act, if that is accepted: one that started has spaces
 abbrev pub cell_after : Parts → Bool → Act → Instance → ℕ → ℕ → ℕ
-cell_after t ok act q r c = cell_by q r c ok act (if is_live t.tabs q then content_at t.screen q r c else space)
+cell_after t ok act q r c = cell_by q r c ok act (if is_live t.tabs q then content_at t.screen q r c
+    else space)
 
 -- the act is one after which the chrome or the instance shown may be others
 abbrev pub composes : Act → Bool

@@ -1,5 +1,6 @@
 // The chrome's rows as texts of at most 80 bytes. Takes no memory.
-ghost use Rattle.std.specs.Prelude.{◌≡◌, ◌+◌, ◌-◌, ◌<◌, ◌≤◌, ◌++◌, ◌∷◌, [], length, map, take, drop, decimal};
+ghost use Rattle.std.specs.Prelude.{◌≡◌, ◌+◌, ◌-◌, ◌<◌, ◌≤◌, ◌++◌, ◌∷◌, [], length, map, take};
+ghost use Rattle.std.specs.Prelude.{drop, decimal};
 ghost use Rattle.arrayvec.specs.ArrayVec.{array_vec_len};
 ghost use Rattle.ibos_model.specs.Screen as spec;
 ghost use Rattle.ibos_model.specs.Screen.{state_text, bar_text, entry_line_text};

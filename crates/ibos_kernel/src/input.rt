@@ -1,5 +1,6 @@
 // The user's keys and clicks.
-ghost use Rattle.std.specs.Prelude.{◌≡◌, ◌<◌, [], ◌∷◌, None, Some, true, false, OnOk, IfSome, is_some, if◌then◌else◌};
+ghost use Rattle.std.specs.Prelude.{◌≡◌, ◌<◌, [], ◌∷◌, None, Some, true, false, OnOk, IfSome};
+ghost use Rattle.std.specs.Prelude.{is_some, if◌then◌else◌};
 ghost use Rattle.ibos_kinds.specs.declared.names.Key.{Key};
 ghost use Rattle.ibos_kinds.specs.Limits.{IsKey};
 ghost use Rattle.ibos_kinds.specs.Keyboard.{key_byte};
@@ -8,7 +9,8 @@ ghost use Rattle.ibos_model.specs.Journal.{is_ok};
 ghost use Rattle.ibos_model.specs.Outcomes.{click_outcome, page_key_outcome};
 ghost use Rattle.ibos_origin.specs.Pages.{allowed};
 ghost use Rattle.ibos_page.specs.Tabs.{live_at, active_in};
-ghost use Rattle.ibos_kernel.specs.Tables.{press_at, enter_at, with_pressed, with_entered, focus_by, IsBeside, ContentsFollow};
+ghost use Rattle.ibos_kernel.specs.Tables.{press_at, enter_at, with_pressed, with_entered};
+ghost use Rattle.ibos_kernel.specs.Tables.{focus_by, IsBeside, ContentsFollow};
 
 use crate::tabs::go;
 use ibos_focus::{ClickDone, Focus, KeyDone, Spot};

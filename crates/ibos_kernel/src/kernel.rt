@@ -1,5 +1,6 @@
 // One step.
-ghost use Rattle.std.specs.Prelude.{◌≡◌, ℕ, ◌<◌, ◌+◌, ◌*◌, ◌^◌, [], ◌∷◌, true, false, is_ok as is_whole, length, slice_index, IfOk, IsOk, OnOk};
+ghost use Rattle.std.specs.Prelude.{◌≡◌, ℕ, ◌<◌, ◌+◌, ◌*◌, ◌^◌, [], ◌∷◌, true, false};
+ghost use Rattle.std.specs.Prelude.{is_ok as is_whole, length, slice_index, IfOk, IsOk, OnOk};
 ghost use Rattle.ibos_kinds.specs.Limits.{Fits};
 
 use crate::parts::Parts;
@@ -27,7 +28,15 @@ impl Model for Kernel {
 
     ghost Value = { Tables };
 
-    ghost view = { λ k. record { hosts = k.parts.hosts; tabs = k.parts.tabs; jars = k.parts.jars; screen = k.parts.screen; focus = k.parts.focus; acts = k.acts; usable = k.usable } };
+    ghost view = { λ k. record {
+      hosts = k.parts.hosts;
+      tabs = k.parts.tabs;
+      jars = k.parts.jars;
+      screen = k.parts.screen;
+      focus = k.parts.focus;
+      acts = k.acts;
+      usable = k.usable;
+    } };
 
     ghost invariant = { λ k. k.usable ≡ true → IsTied k.parts.tabs k.parts.screen k.parts.focus };
 }
@@ -78,9 +87,9 @@ impl Kernel {
         self.acts
     }
 
-    /// Makes one act, and fills `out` with its outcome. Whatever journal the kernel stood for, the outcome
-    /// is the one that the act has there, and the kernel then stands for the journal with the act's entry.
-    /// Once it is out of memory the kernel is spent, and `out` is open.
+    /// Makes one act, and fills `out` with its outcome. Whatever journal the kernel stood for, the
+    /// outcome is the one that the act has there, and the kernel then stands for the journal with
+    /// the act's entry. Once it is out of memory the kernel is spent, and `out` is open.
     pub fn step(&mut self, alloc: Global, act: &Act, out: &mut Outcome) -> Result<(), Memory>
         requires usable { self.old.usable ≡ true }
         requires acts { self.old.acts < 2 ^ 31 }
@@ -94,8 +103,8 @@ impl Kernel {
         ensures carried { OnOk result ((J : Journal) → Stands J self.old
             → IsCarried self.old.hosts J (entry act.now out.new)) }
 
-        // A denied act leaves the kernel as it was, but for the count of acts, and so it leaves all that the
-        // journal says.
+        // A denied act leaves the kernel as it was, but for the count of acts, and so it leaves all
+        // that the journal says.
         ensures denied { OnOk result (is_ok out.new.head ≡ false
             → self.new ≡ record self.old { acts = self.old.acts + 1 }) }
         ensures unchanged { OnOk result ((J : Journal) → is_ok out.new.head ≡ false

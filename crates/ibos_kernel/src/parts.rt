@@ -1,14 +1,18 @@
 // What acts read and change: the host table, the tabs, the jars, the screen and the focus.
-ghost use Rattle.std.specs.Prelude.{◌≡◌, ◌<◌, ◌+◌, ◌*◌, ℕ, [], None, Some, true, length, slice_index, IsOk, OnOk, IfSome};
+ghost use Rattle.std.specs.Prelude.{◌≡◌, ◌<◌, ◌+◌, ◌*◌, ℕ, [], None, Some, true, length};
+ghost use Rattle.std.specs.Prelude.{slice_index, IsOk, OnOk, IfSome};
 ghost use Rattle.ibos_kinds.specs.Limits.{Fits, IsKey};
 ghost use Rattle.ibos_kinds.specs.declared.names.Instance.{Instance};
-ghost use Rattle.ibos_kinds.specs.declared.act.Act.TheVariants.{Start, Switch, Close, Press, Click, Look, Go, Draw, CookieSet, CookieGet};
+ghost use Rattle.ibos_kinds.specs.declared.act.Act.TheVariants.{Start, Switch, Close, Press, Click};
+ghost use Rattle.ibos_kinds.specs.declared.act.Act.TheVariants.{Look, Go, Draw, CookieSet};
+ghost use Rattle.ibos_kinds.specs.declared.act.Act.TheVariants.{CookieGet};
 ghost use Rattle.ibos_page.specs.Tabs.{live_at, admission};
 ghost use Rattle.ibos_frame.specs.ScreenStates.{content_of, seen_at};
 ghost use Rattle.ibos_model.specs.Journal.{is_ok};
 ghost use Rattle.ibos_route.specs.Parties.{admission_of};
 ghost use Rattle.ibos_kernel.specs.Tables as spec;
-ghost use Rattle.ibos_kernel.specs.Tables.{Makes, bar_at, takes_none, IsTied, IsComposed, IsBeside, IsOpenWhereLive, Serves};
+ghost use Rattle.ibos_kernel.specs.Tables.{Makes, bar_at, takes_none, IsTied, IsComposed, IsBeside};
+ghost use Rattle.ibos_kernel.specs.Tables.{IsOpenWhereLive, Serves};
 
 use crate::chrome::{Row, bar_row, entry_row, state_row};
 use crate::cookies::{get, set};
@@ -41,7 +45,13 @@ impl Model for Parts {
 
     ghost Value = { spec.Parts };
 
-    ghost view = { λ p. record { hosts = p.hosts; tabs = p.tabs; jars = p.jars; screen = p.screen; focus = p.focus } };
+    ghost view = { λ p. record {
+      hosts = p.hosts;
+      tabs = p.tabs;
+      jars = p.jars;
+      screen = p.screen;
+      focus = p.focus;
+    } };
 }
 
 impl Parts {

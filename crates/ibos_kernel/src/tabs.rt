@@ -1,10 +1,12 @@
 // Acts on tabs.
-ghost use Rattle.std.specs.Prelude.{◌≡◌, ◌<◌, [], false, Some, Ok, Err, OnOk, is_some, if◌then◌else◌};
+ghost use Rattle.std.specs.Prelude.{◌≡◌, ◌<◌, [], false, Some, Ok, Err, OnOk, is_some};
+ghost use Rattle.std.specs.Prelude.{if◌then◌else◌};
 ghost use Rattle.ibos_model.specs.Journal.{is_ok};
 ghost use Rattle.ibos_model.specs.Outcomes.{accepted, denied, close_outcome};
 ghost use Rattle.ibos_origin.specs.Pages.{allowed};
 ghost use Rattle.ibos_page.specs.Tabs.{seat_at, live_at, start_in, closed, with_seat, without};
-ghost use Rattle.ibos_kernel.specs.Tables.{started_by, with_started, go_at, with_gone, IsBeside, ContentsFollow};
+ghost use Rattle.ibos_kernel.specs.Tables.{started_by, with_started, go_at, with_gone, IsBeside};
+ghost use Rattle.ibos_kernel.specs.Tables.{ContentsFollow};
 
 use ibos_frame::Screen;
 use ibos_kinds::{Bytes, Head, Instance, Item, Memory, Outcome, Rule};

@@ -1,5 +1,7 @@
 -- Cookies: the text of a set, its rules, and the jar that it makes (RFC 6265, section 4.1.1).
-use Rattle.std.specs.Prelude.{ℕ, ◌+◌, ◌-◌, List, [], ◌∷◌, ◌++◌, Bool, ◌==◌, ◌&&◌, ◌||◌, not, nat_lt, nat_le, sum_by, length, take, drop, slice_index, bytes_eq, codes, Option, Some, None, if◌then◌else◌}
+use Rattle.std.specs.Prelude.{ℕ, ◌+◌, ◌-◌, List, [], ◌∷◌, ◌++◌, Bool, ◌==◌, ◌&&◌, ◌||◌, not, nat_lt}
+use Rattle.std.specs.Prelude.{nat_le, sum_by, length, take, drop, slice_index, bytes_eq, codes}
+use Rattle.std.specs.Prelude.{Option, Some, None, if◌then◌else◌}
 use Rattle.std.specs.List.{list_all}
 use Rattle.ibos_kinds.specs.declared.cookies.Cookie.{Cookie}
 use Rattle.ibos_kinds.specs.declared.rule.Rule.{Rule}
@@ -29,7 +31,8 @@ is_digit b = nat_le 48 b && nat_le b 57
 
 -- ! # $ % & ' * + - . ^ _ ` | ~
 abbrev pub is_mark : ℕ → Bool
-is_mark b = b == 33 || (nat_le 35 b && nat_le b 39) || b == 42 || b == 43 || b == 45 || b == 46 || (nat_le 94 b && nat_le b 96) || b == 124 || b == 126
+is_mark b = b == 33 || (nat_le 35 b && nat_le b 39) || b == 42 || b == 43 || b == 45 || b == 46
+    || (nat_le 94 b && nat_le b 96) || b == 124 || b == 126
 
 abbrev pub is_token_byte : ℕ → Bool
 is_token_byte b = is_letter b || is_digit b || is_mark b
@@ -40,11 +43,13 @@ is_token name = nat_lt 0 (length name) && list_all is_token_byte name
 
 -- a printable byte but the space, the double quote, the comma, the semicolon and the backslash
 abbrev pub is_cookie_octet : ℕ → Bool
-is_cookie_octet b = b == 33 || (nat_le 35 b && nat_le b 43) || (nat_le 45 b && nat_le b 58) || (nat_le 60 b && nat_le b 91) || (nat_le 93 b && nat_le b 126)
+is_cookie_octet b = b == 33 || (nat_le 35 b && nat_le b 43) || (nat_le 45 b && nat_le b 58)
+    || (nat_le 60 b && nat_le b 91) || (nat_le 93 b && nat_le b 126)
 
 -- the text begins and ends in double quotes, which are two
 abbrev pub is_quoted : List ℕ → Bool
-is_quoted text = nat_le 2 (length text) && slice_index text 0 == 34 && slice_index text (length text - 1) == 34
+is_quoted text = nat_le 2 (length text) && slice_index text 0 == 34
+    && slice_index text (length text - 1) == 34
 
 abbrev pub unquoted : List ℕ → List ℕ
 unquoted text = if is_quoted text then take (length text - 2) (drop 1 text) else text
@@ -56,7 +61,8 @@ is_value value = list_all is_cookie_octet (unquoted value)
 -- a jar after one more set: the name keeps its place and gets the value, or is the last
 abbrev pub put : Cookie → List Cookie → List Cookie
 put set [] = set ∷ []
-put set (cookie ∷ cookies) = if bytes_eq set.name cookie.name then set ∷ cookies else cookie ∷ put set cookies
+put set (cookie ∷ cookies) = if bytes_eq set.name cookie.name then set ∷ cookies else cookie
+    ∷ put set cookies
 
 -- names and values together
 abbrev pub jar_bytes : List Cookie → ℕ

@@ -1,6 +1,7 @@
--- Datagrams: frames as they are joined from their parts, as Ethernet II, RFC 791 (3.1), RFC 9293 (3.1) and
--- RFC 768 lay them out.
-use Rattle.std.specs.Prelude.{ℕ, ◌≡◌, ◌+◌, ◌-◌, ◌*◌, ◌%◌, ◌^◌, ◌<◌, ◌≤◌, ◌⊎◌, ◌↔◌, List, ◌∷◌, ◌++◌, length, take, drop, slice_index, All, None}
+-- Datagrams: frames as they are joined from their parts, as Ethernet II, RFC 791 (3.1), RFC 9293
+-- (3.1) and RFC 768 lay them out.
+use Rattle.std.specs.Prelude.{ℕ, ◌≡◌, ◌+◌, ◌-◌, ◌*◌, ◌%◌, ◌^◌, ◌<◌, ◌≤◌, ◌⊎◌, ◌↔◌, List, ◌∷◌, ◌++◌}
+use Rattle.std.specs.Prelude.{length, take, drop, slice_index, All, None}
 use Rattle.std.specs.Int.{bytes_high_first}
 use Rattle.ibos_kinds.specs.declared.names.Dir.{Dir}
 use Rattle.ibos_kinds.specs.declared.names.Dir.TheVariants.{In, Out}
@@ -9,7 +10,11 @@ use Rattle.ibos_kinds.specs.declared.names.Heading.{Heading}
 use Rattle.ibos_kinds.specs.declared.names.Proto.{Proto}
 use Rattle.ibos_kinds.specs.declared.names.Proto.TheVariants.{Tcp, Udp}
 use Rattle.ibos_kinds.specs.Sums.{sum16}
-use Rattle.ibos_kinds.specs.Frames.{IsBytes, number, eth_dest, eth_source, eth_payload, ip_words, ip_total, ip_fragment, ip_protocol, ip_src, ip_dst, ip_payload, seg_src_port, seg_dst_port, seg_payload, seg_len, proto_in, tcp_words, udp_len, udp_checksum, pseudo_header, first_broken, heading_between, heading_of}
+use Rattle.ibos_kinds.specs.Frames.{IsBytes, number, eth_dest, eth_source, eth_payload, ip_words}
+use Rattle.ibos_kinds.specs.Frames.{ip_total, ip_fragment, ip_protocol, ip_src, ip_dst, ip_payload}
+use Rattle.ibos_kinds.specs.Frames.{seg_src_port, seg_dst_port, seg_payload, seg_len, proto_in}
+use Rattle.ibos_kinds.specs.Frames.{tcp_words, udp_len, udp_checksum, pseudo_header, first_broken}
+use Rattle.ibos_kinds.specs.Frames.{heading_between, heading_of}
 
 -- the numbers of an IPv4 header, and its options
 pub record IpHeader : Type 0 where
@@ -85,7 +90,8 @@ transport_bytes (OverUdp h) = bytes_high_first 2 h.len ++ bytes_high_first 2 h.c
 
 -- the header of the segment: the ports, and what stands after them
 abbrev pub segment_bytes : Parts → List ℕ
-segment_bytes p = bytes_high_first 2 p.src_port ++ bytes_high_first 2 p.dst_port ++ transport_bytes p.transport
+segment_bytes p = bytes_high_first 2 p.src_port ++ bytes_high_first 2 p.dst_port
+    ++ transport_bytes p.transport
 
 abbrev pub frame_bytes : Parts → List ℕ
 frame_bytes p =
@@ -121,8 +127,8 @@ pub record FitsUdp (h : UdpHeader) : Type 0 where
   pub len : h.len < 2 ^ 16
   pub checksum : h.checksum < 2 ^ 16
 
--- an IPv4 header: options fill it up to its length, the checksum is right, and the datagram is whole: no
--- more fragments follow, and it is none at an offset
+-- an IPv4 header: options fill it up to its length, the checksum is right, and the datagram is
+-- whole: no more fragments follow, and it is none at an offset
 pub record IsIpHeader (h : IpHeader) : Type 0 where
   pub fits : FitsIp h
   pub len : length (ip_bytes h) ≡ 4 * h.words
@@ -136,7 +142,8 @@ used p = length (ip_bytes p.ip) + length (segment_bytes p) + length p.payload
 -- the sum of segment header and payload behind a pseudo-header
 abbrev pub segment_sum : Parts → ℕ → ℕ
 segment_sum p protocol =
-    sum16 (pseudo_header p.ip.src p.ip.dst protocol (length (segment_bytes p) + length p.payload) ++ (segment_bytes p ++ p.payload))
+    sum16 (pseudo_header p.ip.src p.ip.dst protocol (length (segment_bytes p) + length p.payload)
+    ++ (segment_bytes p ++ p.payload))
 
 -- a TCP segment fills its datagram
 pub record IsTcpSegment (p : Parts) (h : TcpHeader) : Type 0 where
@@ -164,8 +171,8 @@ pub record ComesIn (local : Local) (p : Parts) : Type 0 where
   pub dest : p.dest ≡ local.mac
   pub dst : p.ip.dst ≡ local.addr
 
--- a frame that goes out bears them too, and goes to the gateway; it has no options of IPv4, and nothing but
--- zeros after its payload, none of them within the datagram
+-- a frame that goes out bears them too, and goes to the gateway; it has no options of IPv4, and
+-- nothing but zeros after its payload, none of them within the datagram
 pub record GoesOut (local : Local) (p : Parts) : Type 0 where
   pub source : p.source ≡ local.mac
   pub dest : p.dest ≡ local.gateway
@@ -241,10 +248,11 @@ proto_over (OverTcp h) = Tcp
 proto_over (OverUdp h) = Udp
 
 abbrev pub parts_heading : Dir → Parts → Heading
-parts_heading dir p = heading_between dir (proto_over p.transport) p.ip.src p.src_port p.ip.dst p.dst_port
+parts_heading dir p = heading_between dir (proto_over p.transport) p.ip.src p.src_port p.ip.dst
+    p.dst_port
 
--- THE LAW. A frame breaks no rule exactly where it is a datagram of some parts. These parts are unique, and
--- they are those that are read, as is their heading.
+-- THE LAW. A frame breaks no rule exactly where it is a datagram of some parts. These parts are
+-- unique, and they are those that are read, as is their heading.
 abbrev pub BreaksNone : Type 0
 BreaksNone =
     (local : Local) (dir : Dir) (w : List ℕ) → IsBytes w →
@@ -252,11 +260,14 @@ BreaksNone =
 
 abbrev pub HasOneParts : Type 0
 HasOneParts =
-    (local : Local) (dir : Dir) (w : List ℕ) (p q : Parts) → Datagram local dir w p → Datagram local dir w q → p ≡ q
+    (local : Local) (dir : Dir) (w : List ℕ) (p q : Parts) → Datagram local dir w p
+    → Datagram local dir w q → p ≡ q
 
 abbrev pub AreRead : Type 0
-AreRead = (local : Local) (dir : Dir) (w : List ℕ) (p : Parts) → Datagram local dir w p → p ≡ parts_of w
+AreRead = (local : Local) (dir : Dir) (w : List ℕ) (p : Parts) → Datagram local dir w p
+    → p ≡ parts_of w
 
 abbrev pub HasHeading : Type 0
 HasHeading =
-    (local : Local) (dir : Dir) (w : List ℕ) (p : Parts) → Datagram local dir w p → heading_of dir w ≡ parts_heading dir p
+    (local : Local) (dir : Dir) (w : List ℕ) (p : Parts) → Datagram local dir w p
+    → heading_of dir w ≡ parts_heading dir p

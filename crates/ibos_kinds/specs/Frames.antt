@@ -1,7 +1,9 @@
--- Frames as the rules read them, by fields at places: Ethernet II, IPv4 (RFC 791, 3.1), TCP (RFC 9293, 3.1)
--- and UDP (RFC 768). Every number in a frame is big-endian. `Datagrams` says of a frame how it is joined from
--- its parts.
-use Rattle.std.specs.Prelude.{ℕ, zero, suc, ◌+◌, ◌-◌, ◌*◌, ◌/◌, ◌%◌, ◌^◌, ◌<◌, ◌==◌, nat_lt, nat_le, Bool, true, not, ◌&&◌, ◌||◌, if◌then◌else◌, List, ◌∷◌, ◌++◌, length, take, drop, slice_index, Option, Some, None, unwrap_or}
+-- Frames as the rules read them, by fields at places: Ethernet II, IPv4 (RFC 791, 3.1), TCP (RFC
+-- 9293, 3.1) and UDP (RFC 768). Every number in a frame is big-endian. `Datagrams` says of a frame
+-- how it is joined from its parts.
+use Rattle.std.specs.Prelude.{ℕ, zero, suc, ◌+◌, ◌-◌, ◌*◌, ◌/◌, ◌%◌, ◌^◌, ◌<◌, ◌==◌, nat_lt, nat_le}
+use Rattle.std.specs.Prelude.{Bool, true, not, ◌&&◌, ◌||◌, if◌then◌else◌, List, ◌∷◌, ◌++◌, length}
+use Rattle.std.specs.Prelude.{take, drop, slice_index, Option, Some, None, unwrap_or}
 use Rattle.std.specs.List.{list_all}
 use Rattle.std.specs.Option.{option_or}
 use Rattle.std.specs.Int.{bytes_high_first}
@@ -12,7 +14,8 @@ use Rattle.ibos_kinds.specs.declared.names.Dir.TheVariants.{In, Out}
 use Rattle.ibos_kinds.specs.declared.names.Local.{Local}
 use Rattle.ibos_kinds.specs.declared.names.Heading.{Heading}
 use Rattle.ibos_kinds.specs.declared.rule.Rule.{Rule}
-use Rattle.ibos_kinds.specs.declared.rule.Rule.TheVariants.{F1, F2, F3, F4, F5, F6, F7, F8, F9, F10, F11, F15}
+use Rattle.ibos_kinds.specs.declared.rule.Rule.TheVariants.{F1, F2, F3, F4, F5, F6, F7, F8, F9, F10}
+use Rattle.ibos_kinds.specs.declared.rule.Rule.TheVariants.{F11, F15}
 use Rattle.ibos_kinds.specs.Sums.{sum16}
 
 -- each element is a byte
@@ -142,7 +145,8 @@ mac_broken local Out dest source =
 
 abbrev pub is_ip_form : Dir → List ℕ → Bool
 is_ip_form dir b =
-    nat_le 20 (length b) && (ip_version b == 4) && nat_le 5 (ip_words b) && nat_le (4 * ip_words b) (ip_total b)
+    nat_le 20 (length b) && (ip_version b == 4) && nat_le 5 (ip_words b)
+    && nat_le (4 * ip_words b) (ip_total b)
     && nat_le (ip_total b) (length b) && is_equal_out dir (ip_words b) 5
 
 unfoldable pub ip_broken : Dir → List ℕ → Option Rule
@@ -158,14 +162,17 @@ addr_broken local In src dst = if not (dst == local.addr) then Some F8 else None
 addr_broken local Out src dst = if not (src == local.addr) then Some F8 else None
 
 abbrev pub is_seg_form : Dir → Proto → List ℕ → Bool
-is_seg_form dir Tcp s = nat_le 20 (length s) && nat_le 5 (tcp_words s) && nat_le (4 * tcp_words s) (length s)
+is_seg_form dir Tcp s = nat_le 20 (length s) && nat_le 5 (tcp_words s)
+    && nat_le (4 * tcp_words s) (length s)
 is_seg_form dir Udp s =
-    nat_le 8 (length s) && nat_le 8 (udp_len s) && nat_le (udp_len s) (length s) && is_equal_out dir (udp_len s) (length s)
+    nat_le 8 (length s) && nat_le 8 (udp_len s) && nat_le (udp_len s) (length s)
+    && is_equal_out dir (udp_len s) (length s)
 
 abbrev pub is_seg_sum : Proto → ℕ → ℕ → List ℕ → Bool
 is_seg_sum Tcp src dst s = sum16 (pseudo_header src dst 6 (length s) ++ s) == 0
 is_seg_sum Udp src dst s =
-    (udp_checksum s == 0) || (sum16 (pseudo_header src dst 17 (udp_len s) ++ take (udp_len s) s) == 0)
+    (udp_checksum s == 0) || (sum16 (pseudo_header src dst 17 (udp_len s)
+    ++ take (udp_len s) s) == 0)
 
 abbrev pub seg_broken_over : Dir → Option Proto → ℕ → ℕ → List ℕ → Option Rule
 seg_broken_over dir None src dst s = Some F9

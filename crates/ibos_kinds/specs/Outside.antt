@@ -1,5 +1,6 @@
 -- What a cabinet of files and a sink of bytes do.
-use Rattle.std.specs.Prelude.{ℕ, ◌≡◌, ◌+◌, ◌-◌, ◌^◌, ◌<◌, ◌≤◌, min, List, [], ◌++◌, length, take, drop, Option, option_map, Result, Ok, Err, OnErr}
+use Rattle.std.specs.Prelude.{ℕ, ◌≡◌, ◌+◌, ◌-◌, ◌^◌, ◌<◌, ◌≤◌, min, List, [], ◌++◌, length, take}
+use Rattle.std.specs.Prelude.{drop, Option, option_map, Result, Ok, Err, OnErr}
 use Rattle.ibos_kinds.specs.declared.outside.Failed.{Failed}
 
 -- a count went up, or stands at its end

@@ -1,6 +1,8 @@
--- The screen's cells, 25 rows of 80: three rows are the chrome's, and 22 the content of a page. What a draw makes of
--- a content.
-use Rattle.std.specs.Prelude.{ℕ, ◌+◌, ◌-◌, ◌*◌, List, ◌++◌, replicate, Bool, ◌==◌, ◌&&◌, not, nat_lt, nat_le, length, slice_index, Option, Some, None, if◌then◌else◌}
+-- The screen's cells, 25 rows of 80: three rows are the chrome's, and 22 the content of a page.
+-- What a draw makes of a content.
+use Rattle.std.specs.Prelude.{ℕ, ◌+◌, ◌-◌, ◌*◌, List, ◌++◌, replicate, Bool, ◌==◌, ◌&&◌, not}
+use Rattle.std.specs.Prelude.{nat_lt, nat_le, length, slice_index, Option, Some, None}
+use Rattle.std.specs.Prelude.{if◌then◌else◌}
 use Rattle.std.specs.List.{list_all}
 use Rattle.ibos_kinds.specs.declared.rule.Rule.{Rule}
 use Rattle.ibos_kinds.specs.declared.rule.Rule.TheVariants.{P3, P4}
@@ -47,7 +49,8 @@ draw_breaks row col height width pixels =
 
 -- the region of a draw has the cell
 unfoldable pub covers : ℕ → ℕ → ℕ → ℕ → ℕ → ℕ → Bool
-covers row col height width r c = nat_le row r && nat_lt r (row + height) && nat_le col c && nat_lt c (col + width)
+covers row col height width r c = nat_le row r && nat_lt r (row + height) && nat_le col c
+    && nat_lt c (col + width)
 
 -- the pixel of a draw at a cell of its region: its rows come one after the other
 unfoldable pub pixel_at : ℕ → ℕ → ℕ → List ℕ → ℕ → ℕ → ℕ

@@ -1,8 +1,8 @@
 -- Internet checksums (RFC 1071): sums of 16-bit words in ones' complement arithmetic.
 use Rattle.std.specs.Prelude.{ℕ, ◌+◌, ◌-◌, ◌*◌, ◌%◌, ◌==◌, if◌then◌else◌, List, [], ◌∷◌}
 
--- the plain sum of the words in some bytes, the first byte of each word the higher; an odd last byte is
--- padded by zero
+-- the plain sum of the words in some bytes, the first byte of each word the higher; an odd last
+-- byte is padded by zero
 abbrev pub plain_sum : List ℕ → ℕ
 plain_sum [] = 0
 plain_sum (a ∷ []) = 256 * a

@@ -1,7 +1,13 @@
 -- The code and the name of each rule, as denials print them.
 use Rattle.std.specs.Prelude.{ℕ, List, codes}
 use Rattle.ibos_kinds.specs.declared.rule.Rule.{Rule}
-use Rattle.ibos_kinds.specs.declared.rule.Rule.TheVariants.{M1, M2, M3, M4, M5, M6, M7, M8, M9, F1, F2, F3, F4, F5, F6, F7, F8, F9, F10, F11, F12, F13, F14, F15, N1, N2, N3, N4, N5, N6, U1, U2, U3, U4, U5, U6, U7, U8, U9, U10, U11, U12, P1, P2, P3, P4, C1, C2, C3, S1, S2, S3, S4, S5, S6, S7, S8, S9}
+use Rattle.ibos_kinds.specs.declared.rule.Rule.TheVariants.{M1, M2, M3, M4, M5, M6, M7, M8, M9, F1}
+use Rattle.ibos_kinds.specs.declared.rule.Rule.TheVariants.{F2, F3, F4, F5, F6, F7, F8, F9, F10}
+use Rattle.ibos_kinds.specs.declared.rule.Rule.TheVariants.{F11, F12, F13, F14, F15, N1, N2, N3, N4}
+use Rattle.ibos_kinds.specs.declared.rule.Rule.TheVariants.{N5, N6, U1, U2, U3, U4, U5, U6, U7, U8}
+use Rattle.ibos_kinds.specs.declared.rule.Rule.TheVariants.{U9, U10, U11, U12, P1, P2, P3, P4, C1}
+use Rattle.ibos_kinds.specs.declared.rule.Rule.TheVariants.{C2, C3, S1, S2, S3, S4, S5, S6, S7, S8}
+use Rattle.ibos_kinds.specs.declared.rule.Rule.TheVariants.{S9}
 
 abbrev pub code_of : Rule → List ℕ
 code_of M1 = codes "M1"

@@ -4,8 +4,8 @@ ghost use Rattle.ibos_kinds.specs.Limits.{Fits, IsKey, IsNamed};
 
 use crate::{Bytes, Instance, Key, Side};
 
-/// One event of one actor. The user opens, switches and closes tabs, presses keys, clicks and looks;
-/// the processes of an instance do the rest.
+/// One event of one actor. The user opens, switches and closes tabs, presses keys, clicks and
+/// looks; the processes of an instance do the rest.
 #[derive(Debug, PartialEq, Eq, Drop)]
 pub enum Act {
     /// The user opens a URL in a tab.
@@ -37,8 +37,8 @@ pub enum Act {
         who: Instance,
         url: Bytes,
     },
-    /// A renderer draws a region of its content: rows of pixels, one after the other. Row and column are
-    /// those of its first cell; all are counted in cells.
+    /// A renderer draws a region of its content: rows of pixels, one after the other. Row and
+    /// column are those of its first cell; all are counted in cells.
     Draw {
         who: Instance,
         row: u32,
@@ -61,7 +61,8 @@ pub enum Act {
 }
 
 impl Act {
-    /// Whether each field is in its range: tabs below 64, ordinals below 32, a key's byte 0x20 to 0x7E.
+    /// Whether each field is in its range: tabs below 64, ordinals below 32, a key's byte 0x20 to
+    /// 0x7E.
     pub fn fits(&self) -> bool
         ensures { IsTrue result ↔ Fits self.now }
     {

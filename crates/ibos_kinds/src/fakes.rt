@@ -1,5 +1,6 @@
 // A cabinet and a sink in memory, whose calls can be told to fail.
-ghost use Rattle.std.specs.Prelude.{◌≡◌, ◌+◌, ◌-◌, ◌<◌, ◌≤◌, ◌↔◌, min, [], ◌∷◌, ◌++◌, length, IfOk, OnOk, OnErr, IsTrue, Contains, MatchOption, slice_get, IfSome};
+ghost use Rattle.std.specs.Prelude.{◌≡◌, ◌+◌, ◌-◌, ◌<◌, ◌≤◌, ◌↔◌, min, [], ◌∷◌, ◌++◌, length, IfOk};
+ghost use Rattle.std.specs.Prelude.{OnOk, OnErr, IsTrue, Contains, MatchOption, slice_get, IfSome};
 ghost use Rattle.ibos_kinds.specs.Fakes.{file_named, no_files, no_bytes, after_read, after_write};
 ghost use Rattle.std.specs.Option.{option_copied};
 ghost use Rattle.ibos_kinds.specs.Outside.{ReadsFrom};
@@ -112,7 +113,8 @@ impl Cabinet for MemCabinet {
         ensures holds { (name : List ℕ) → file_named self.new.files name
             ≡ file_named self.old.files name }
         ensures later { (name : List ℕ) → faults_of self.old name ≤ faults_of self.new name }
-        ensures cause { HasCause (faults_of self.old name.now) (faults_of self.new name.now) result }
+        ensures cause { HasCause (faults_of self.old name.now) (faults_of self.new name.now)
+            result }
 
         // Exactly which reads fail, how much the others give, and what a read changes.
         ensures after { self.new ≡ after_read self.old name.now result }

@@ -1,5 +1,5 @@
-//! The words that every crate shares: bytes, instances, rules, acts, items and outcomes, and the traits
-//! of what lies outside, with stand-ins for them in memory.
+//! The words that every crate shares: bytes, instances, rules, acts, items and outcomes, and the
+//! traits of what lies outside, with stand-ins for them in memory.
 #![tactic(auto)]
 
 mod act;

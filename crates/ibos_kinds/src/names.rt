@@ -36,8 +36,8 @@ pub struct Endpoint {
     pub port: u16,
 }
 
-/// This machine's own addresses, and the MAC address to which every frame is sent. A MAC address is a
-/// number below 2^48 whose highest byte is the first on the wire; an IPv4 address likewise.
+/// This machine's own addresses, and the MAC address to which every frame is sent. A MAC address is
+/// a number below 2^48 whose highest byte is the first on the wire; an IPv4 address likewise.
 #[derive(Clone, Copy, Debug, PartialEq, Eq)]
 pub struct Local {
     pub addr: u32,
@@ -45,7 +45,8 @@ pub struct Local {
     pub gateway: u64,
 }
 
-/// What a frame's headers say of its flow: the protocol, the port on this machine, and the other end.
+/// What a frame's headers say of its flow: the protocol, the port on this machine, and the other
+/// end.
 #[derive(Clone, Copy, Debug, PartialEq, Eq)]
 pub struct Heading {
     pub proto: Proto,

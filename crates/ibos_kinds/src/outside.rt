@@ -1,6 +1,7 @@
 // What lies outside: files to read, and a sink for text.
 ghost use Rattle.std.specs.Prelude.{◌≡◌, ◌≤◌, List, ℕ, Option, length, IfOk, IfSome};
-ghost use Rattle.ibos_kinds.specs.Outside.{HasCause, ReadsFrom, TakesFront, front_taken, taken_after};
+ghost use Rattle.ibos_kinds.specs.Outside.{HasCause, ReadsFrom, TakesFront, front_taken};
+ghost use Rattle.ibos_kinds.specs.Outside.{taken_after};
 
 use crate::Bytes;
 
@@ -18,8 +19,8 @@ pub trait Cabinet {
     /// How often reads of a name have failed.
     ghost faults: { Self → List ℕ → ℕ };
 
-    /// Reads bytes of a file from a place (in bytes, from 0) into the front of `into`, and answers how
-    /// many. No byte for a slice that isn't empty is the end of the file.
+    /// Reads bytes of a file from a place (in bytes, from 0) into the front of `into`, and answers
+    /// how many. No byte for a slice that isn't empty is the end of the file.
     fn read_at(&mut self, name: &Bytes, place: u64, into: &mut [u8]) -> Result<usize, Failed>
         ensures within { IfOk result (λ got. got ≤ length into.new) }
         ensures bytes { IfOk result (λ got. IfSome (holds self.old name.now)

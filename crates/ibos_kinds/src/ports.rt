@@ -8,8 +8,8 @@ use crate::Instance;
 // The first local port.
 const FIRST: u16 = 32_768;
 
-/// The local port of one of an instance's 16 flows: from 32,768 on, 512 ports for each tab and 16 for
-/// each of its instances.
+/// The local port of one of an instance's 16 flows: from 32,768 on, 512 ports for each tab and 16
+/// for each of its instances.
 pub fn local_port(who: Instance, flow: u8) -> u16
     requires who { IsNamed who }
     requires flow { flow < 16 }

@@ -5,8 +5,8 @@ ghost use Rattle.ibos_kinds.specs.Sums.{plain_sum, carried, sum_words, sum16};
 // So few bytes that the plain sum of their words, with a word more, fits 32 bits.
 const PIECE: usize = 65536;
 
-/// The ones' complement sum (RFC 1071) of a word and of the 16-bit words in the bytes, the first byte
-/// of each the higher, an odd last byte padded by zero. It is 0 only where all of them are 0.
+/// The ones' complement sum (RFC 1071) of a word and of the 16-bit words in the bytes, the first
+/// byte of each the higher, an odd last byte padded by zero. It is 0 only where all of them are 0.
 #[tactic(auto, unfolding(crate::specs::Sums::sum_words))]
 pub fn sum_words(start: u16, bytes: &[u8]) -> u16
     ensures value { result ≡ sum_words start bytes.now }

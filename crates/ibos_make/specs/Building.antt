@@ -4,7 +4,8 @@ use Rattle.ibos_kinds.specs.declared.names.Local.{Local}
 use Rattle.ibos_kinds.specs.declared.names.Proto.{Proto}
 use Rattle.ibos_kinds.specs.declared.names.Proto.TheVariants.{Tcp, Udp}
 use Rattle.ibos_kinds.specs.Sums.{sum16}
-use Rattle.ibos_kinds.specs.Datagrams.{IpHeader, Transport, OverTcp, OverUdp, Parts, ip_bytes, segment_sum}
+use Rattle.ibos_kinds.specs.Datagrams.{IpHeader, Transport, OverTcp, OverUdp, Parts, ip_bytes}
+use Rattle.ibos_kinds.specs.Datagrams.{segment_sum}
 use Rattle.ibos_make.specs.declared.building.FrameSpec.{FrameSpec}
 
 -- the number of a protocol, and the length of its header without options
@@ -69,7 +70,8 @@ written Tcp checksum = checksum
 written Udp checksum = if checksum == 0 then 0xFFFF else checksum
 
 abbrev pub checksum_for : FrameSpec → ℕ
-checksum_for spec = written spec.proto (segment_sum (parts_with spec 0 0) (protocol_number spec.proto))
+checksum_for spec = written spec.proto
+    (segment_sum (parts_with spec 0 0) (protocol_number spec.proto))
 
 unfoldable pub parts_for : FrameSpec → Parts
 parts_for spec = parts_with spec (ip_checksum_for spec) (checksum_for spec)

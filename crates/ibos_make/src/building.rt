@@ -4,7 +4,9 @@ ghost use Rattle.std.specs.Int.{bytes_high_first};
 ghost use Rattle.ibos_kinds.specs.Sums.{sum_words, sum16};
 ghost use Rattle.ibos_kinds.specs.Frames.{first_broken, pseudo_header};
 ghost use Rattle.ibos_kinds.specs.Datagrams.{Datagram, frame_bytes, ip_bytes, segment_bytes};
-ghost use Rattle.ibos_make.specs.Building.{protocol_number, header_len, ip_for, transport_for, parts_with, ip_checksum_for, written, parts_for, receiver, sender, HasAddrs, HasPorts};
+ghost use Rattle.ibos_make.specs.Building.{protocol_number, header_len, ip_for, transport_for};
+ghost use Rattle.ibos_make.specs.Building.{parts_with, ip_checksum_for, written, parts_for};
+ghost use Rattle.ibos_make.specs.Building.{receiver, sender, HasAddrs, HasPorts};
 
 use ibos_kinds::{Bytes, Dir, Endpoint, Memory, Proto, sum_words, sum16};
 use ibos_tcp::pseudo_sum;
@@ -19,7 +21,8 @@ const TCP_HEADER: usize = 20;
 
 const UDP_HEADER: usize = 8;
 
-/// What a frame is to say: the MAC addresses that it goes to and comes from, its ends, and its payload.
+/// What a frame is to say: the MAC addresses that it goes to and comes from, its ends, and its
+/// payload.
 #[derive(Debug, Drop)]
 pub struct FrameSpec {
     pub to: u64,
@@ -30,10 +33,11 @@ pub struct FrameSpec {
     pub payload: Bytes,
 }
 
-/// A frame (Ethernet II, RFC 791, RFC 9293, RFC 768) of what it is to say, which breaks no rule for the
-/// machine that it goes to, and none for the one that it comes from. The header of IPv4 has no options, is
-/// not to be fragmented, and lives for 64 hops; that of TCP has sequence and acknowledgement 1, the flags
-/// PSH and ACK, and a window of 8,192 bytes. Both checksums are right, and no byte follows the payload.
+/// A frame (Ethernet II, RFC 791, RFC 9293, RFC 768) of what it is to say, which breaks no rule for
+/// the machine that it goes to, and none for the one that it comes from. The header of IPv4 has no
+/// options, is not to be fragmented, and lives for 64 hops; that of TCP has sequence and
+/// acknowledgement 1, the flags PSH and ACK, and a window of 8,192 bytes. Both checksums are right,
+/// and no byte follows the payload.
 pub fn build(alloc: Global, spec: &FrameSpec) -> Result<Bytes, Memory>
     requires payload { length spec.now.payload ≤ 1460 }
     requires to { spec.now.to < 2 ^ 48 }
@@ -41,11 +45,14 @@ pub fn build(alloc: Global, spec: &FrameSpec) -> Result<Bytes, Memory>
     ensures layout { IfOk result (λ frame. frame ≡ frame_bytes (parts_for spec.now)) }
 
     // These are its parts, both where it comes in and where it goes out.
-    ensures comes_in { IfOk result (λ frame. (gateway : ℕ) → Datagram (receiver spec.now gateway) Dir.In frame (parts_for spec.now)) }
-    ensures goes_out { IfOk result (λ frame. Datagram (sender spec.now) Dir.Out frame (parts_for spec.now)) }
+    ensures comes_in { IfOk result (λ frame. (gateway : ℕ)
+        → Datagram (receiver spec.now gateway) Dir.In frame (parts_for spec.now)) }
+    ensures goes_out { IfOk result (λ frame.
+        Datagram (sender spec.now) Dir.Out frame (parts_for spec.now)) }
 
     // So it breaks no rule.
-    ensures none_in { IfOk result (λ frame. (gateway : ℕ) → first_broken (receiver spec.now gateway) Dir.In frame ≡ None) }
+    ensures none_in { IfOk result (λ frame. (gateway : ℕ)
+        → first_broken (receiver spec.now gateway) Dir.In frame ≡ None) }
     ensures none_out { IfOk result (λ frame. first_broken (sender spec.now) Dir.Out frame ≡ None) }
 {
     let frame = laid_out(alloc, spec)?;
@@ -76,8 +83,10 @@ fn joined(alloc: Global, spec: &FrameSpec, header: &[u8]) -> Result<Bytes, Memor
     requires payload { length spec.now.payload ≤ 1460 }
     requires header { length header.now ≤ 20 }
     ensures addrs { HasAddrs spec.now }
-    ensures bytes { IfOk result (λ frame. frame ≡ bytes_high_first 6 spec.now.to ++ bytes_high_first 6 spec.now.from ++ bytes_high_first 2 0x0800
-        ++ ip_bytes (ip_for spec.now (ip_checksum_for spec.now)) ++ header.now ++ spec.now.payload) }
+    ensures bytes { IfOk result (λ frame. frame ≡ bytes_high_first 6 spec.now.to
+        ++ bytes_high_first 6 spec.now.from ++ bytes_high_first 2 0x0800
+        ++ ip_bytes (ip_for spec.now (ip_checksum_for spec.now)) ++ header.now
+        ++ spec.now.payload) }
 {
     let checksum = sum16(&ip_header(spec, 0));
     let mut frame = Bytes::new(alloc);
@@ -95,7 +104,8 @@ fn checksum(spec: &FrameSpec, header: &[u8]) -> u16
     requires payload { length spec.now.payload ≤ 1460 }
     requires header { length header.now ≤ 20 }
     requires even { length header.now % 2 ≡ 0 }
-    ensures { result ≡ sum16 (pseudo_header spec.now.src.addr spec.now.dst.addr (protocol_number spec.now.proto)
+    ensures { result ≡ sum16 (pseudo_header spec.now.src.addr spec.now.dst.addr
+        (protocol_number spec.now.proto)
         (length header.now + length spec.now.payload) ++ (header.now ++ spec.now.payload)) }
 {
     let protocol = protocol_number(spec.proto);
@@ -113,7 +123,8 @@ fn shown(checksum: u16) -> u16
 
 // The header of Ethernet.
 fn eth_header(spec: &FrameSpec) -> [u8; 14]
-    ensures { result ≡ bytes_high_first 6 spec.now.to ++ bytes_high_first 6 spec.now.from ++ bytes_high_first 2 0x0800 }
+    ensures { result ≡ bytes_high_first 6 spec.now.to ++ bytes_high_first 6 spec.now.from
+        ++ bytes_high_first 2 0x0800 }
 {
     let [_, _, a, b, c, d, e, f] = spec.to.to_be_bytes();
     let [_, _, g, h, i, j, k, l] = spec.from.to_be_bytes();
@@ -131,8 +142,8 @@ fn ip_header(spec: &FrameSpec, checksum: u16) -> [u8; 20]
     let [x, y] = checksum.to_be_bytes();
     let [a, b, c, d, e, f, g, h] = addrs(spec.src, spec.dst);
     let protocol = protocol_number(spec.proto);
-    // Version and IHL, type of service, total length, identification, flags and offset, time to live,
-    // protocol, checksum, addresses.
+    // Version and IHL, type of service, total length, identification, flags and offset, time to
+    // live, protocol, checksum, addresses.
     [
         0x45, 0, t, u, 0, 0, 0x40, 0, 64, protocol, x, y, a, b, c, d, e, f, g, h,
     ]

@@ -8,8 +8,9 @@ use std::alloc::Global;
 use std::process::Abort;
 use std::test::Fail;
 
-// TCP to this machine, UDP to it without a checksum, and two frames of TCP that go out; then the second
-// with options of IPv4, and the second with more fragments. Each is Ethernet, IPv4 and the rest.
+// TCP to this machine, UDP to it without a checksum, and two frames of TCP that go out; then the
+// second with options of IPv4, and the second with more fragments. Each is Ethernet, IPv4 and the
+// rest.
 const G1: &[u8] = b"\x02\x00\x00\x00\x00\x01\x02\x00\x00\x00\x00\xfe\x08\x00\
     \x45\x00\x00\x2b\x00\x01\x40\x00\x40\x06\x4e\x8d\xc6\x33\x64\x01\xc0\x00\x02\x0a\
     \x00\x50\x80\x00\x00\x00\x00\x01\x00\x00\x00\x01\x50\x18\x20\x00\x5e\xd5\x00\x00\x61\x62\x63";

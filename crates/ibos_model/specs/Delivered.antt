@@ -15,7 +15,8 @@ abbrev pub told : Party → List Item → List Delivery
 told party items = map Told (filter (is_to party) items)
 
 abbrev pub told_at : Party → Entry → List Delivery
-told_at party e = (if is_by party e.act then Answer e.outcome.head ∷ [] else []) ++ told party e.outcome.items
+told_at party e = (if is_by party e.act then Answer e.outcome.head ∷ [] else [])
+    ++ told party e.outcome.items
 
 abbrev pub delivered : Party → Journal → List Delivery
 delivered party J = in_order (λ before e. told_at party e) J

@@ -1,5 +1,6 @@
 -- What concerns one instance of one origin.
-use Rattle.std.specs.Prelude.{ℕ, ◌≡◌, ◌≢◌, List, [], ◌∷◌, ◌++◌, ◌-◌, Bool, not, ◌&&◌, nat_lt, bytes_eq, Option, if◌then◌else◌}
+use Rattle.std.specs.Prelude.{ℕ, ◌≡◌, ◌≢◌, List, [], ◌∷◌, ◌++◌, ◌-◌, Bool, not, ◌&&◌, nat_lt}
+use Rattle.std.specs.Prelude.{bytes_eq, Option, if◌then◌else◌}
 use Rattle.ibos_kinds.specs.declared.names.Instance.{Instance}
 use Rattle.ibos_kinds.specs.declared.act.Act.{Act}
 use Rattle.ibos_kinds.specs.declared.act.Act.TheVariants.{Press, Click, CookieSet}
@@ -11,7 +12,8 @@ use Rattle.ibos_model.specs.Journal.{Entry, Journal, is_accepted, same}
 use Rattle.ibos_kinds.specs.Keyboard.{key_byte}
 use Rattle.ibos_kinds.specs.Screens.{chrome_rows}
 use Rattle.ibos_model.specs.Focus.{focus_of, is_active}
-use Rattle.ibos_model.specs.Tabs.{Change, Opens, Moves, Ends, changes, tabs, Unborn, life_of, origin_of, active_of}
+use Rattle.ibos_model.specs.Tabs.{Change, Opens, Moves, Ends, changes, tabs, Unborn, life_of}
+use Rattle.ibos_model.specs.Tabs.{origin_of, active_of}
 
 pub data Fact : Type 0 where
   Opened : (url : List ℕ) → Fact
@@ -37,13 +39,16 @@ change_facts p own [] = []
 change_facts p own (c ∷ cs) = change_fact p own c ++ change_facts p own cs
 
 abbrev pub others : (Instance → List ℕ) → Instance → List ℕ → Bool → Act → List Fact
-others origins p o ok (CookieSet side who text) = if same who p then [] else when (ok && bytes_eq (origins who) o) (OtherSet text)
+others origins p o ok (CookieSet side who text) = if same who p then []
+    else when (ok && bytes_eq (origins who) o) (OtherSet text)
 others origins p o ok other = []
 
 -- a key or a click that goes to the active instance
 abbrev pub hits : Instance → Option Instance → Bool → Bool → Act → List Fact
-hits p active at_entry_line ok (Press key) = when (ok && (not at_entry_line && is_active p active)) (KeyHit (key_byte key))
-hits p active at_entry_line ok (Click row col) = when (ok && (not (nat_lt row chrome_rows) && is_active p active)) (ClickHit (row - chrome_rows) col)
+hits p active at_entry_line ok (Press key) = when (ok
+    && (not at_entry_line && is_active p active)) (KeyHit (key_byte key))
+hits p active at_entry_line ok (Click row col) = when (ok
+    && (not (nat_lt row chrome_rows) && is_active p active)) (ClickHit (row - chrome_rows) col)
 hits p active at_entry_line ok other = []
 
 -- what one entry adds
@@ -52,7 +57,8 @@ facts_at H p o J e =
     when (is_by (Page p) e.act) (Own e.act)
     ++ (hits p (active_of H J) (focus_of J).at_entry_line (is_accepted e) e.act
     ++ (others (origin_of H J) p o (is_accepted e) e.act
-    ++ change_facts p (is_by (Page p) e.act) (changes H (tabs H J) (focus_of J) (is_accepted e) e.act)))
+    ++ change_facts p (is_by (Page p) e.act)
+    (changes H (tabs H J) (focus_of J) (is_accepted e) e.act)))
 
 -- the facts in the journal's order
 abbrev pub facts : HostTable → Instance → List ℕ → Journal → List Fact

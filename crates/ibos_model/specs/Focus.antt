@@ -1,5 +1,6 @@
 -- Which tab is active, where keys go, and what stands in the entry line.
-use Rattle.std.specs.Prelude.{ℕ, List, [], ◌∷◌, Bool, true, false, ◌&&◌, Option, Some, None, ◌==◌, nat_lt, if◌then◌else◌}
+use Rattle.std.specs.Prelude.{ℕ, List, [], ◌∷◌, Bool, true, false, ◌&&◌, Option, Some, None, ◌==◌}
+use Rattle.std.specs.Prelude.{nat_lt, if◌then◌else◌}
 use Rattle.ibos_kinds.specs.declared.names.Instance.{Instance}
 use Rattle.ibos_kinds.specs.declared.names.Key.{Key}
 use Rattle.ibos_kinds.specs.declared.names.Key.TheVariants.{Enter}
@@ -34,11 +35,13 @@ abbrev pub is_tab : ℕ → Option ℕ → Bool
 is_tab tab None = false
 is_tab tab (Some active) = active == tab
 
--- a click on rows 0 and 1 changes nothing, one on row 2 goes to the entry line, and one on the rows behind to the content
+-- a click on rows 0 and 1 changes nothing, one on row 2 goes to the entry line, and one on the rows
+-- behind to the content
 abbrev pub clicked : ℕ → Bool → Bool
 clicked row old = if nat_lt row 2 then old else row == 2
 
--- opening and switching go to the content, and so does Enter; closing the active tab goes to the entry line
+-- opening and switching go to the content, and so does Enter; closing the active tab goes to the
+-- entry line
 abbrev pub at_entry_line_by : Option ℕ → Bool → Act → Bool → Bool
 at_entry_line_by active ok (Start tab url) old = if ok then false else old
 at_entry_line_by active ok (Switch tab) old = if ok then false else old
@@ -53,7 +56,8 @@ entered Enter entry = []
 entered key entry = typed entry key
 
 abbrev pub entry_line_by : Bool → Bool → Act → List ℕ → List ℕ
-entry_line_by at_entry_line ok (Press key) old = if ok && at_entry_line then entered key old else old
+entry_line_by at_entry_line ok (Press key) old = if ok && at_entry_line then entered key old
+    else old
 entry_line_by at_entry_line ok other old = old
 
 abbrev pub focus_by : Bool → Act → Focus → Focus

@@ -1,10 +1,12 @@
 -- What the facts give to the instance, and what a journal delivers to it.
-use Rattle.std.specs.Prelude.{ℕ, ◌+◌, Result, Ok, Err, bytes_eq, nat_lt, List, [], ◌∷◌, true, if◌then◌else◌}
+use Rattle.std.specs.Prelude.{ℕ, ◌+◌, Result, Ok, Err, bytes_eq, nat_lt, List, [], ◌∷◌, true}
+use Rattle.std.specs.Prelude.{if◌then◌else◌}
 use Rattle.ibos_kinds.specs.declared.names.Instance.{Instance}
 use Rattle.ibos_kinds.specs.declared.act.Act.{Act}
 use Rattle.ibos_kinds.specs.declared.rule.Rule.{Rule}
 use Rattle.ibos_kinds.specs.declared.act.Act.TheVariants.{Go, Draw, CookieSet, CookieGet}
-use Rattle.ibos_kinds.specs.declared.outcome.Item.TheVariants.{Opened as ItemOpened, Moved, Ended, KeyTo, ClickTo}
+use Rattle.ibos_kinds.specs.declared.outcome.Item.TheVariants.{Opened as ItemOpened, Moved, Ended}
+use Rattle.ibos_kinds.specs.declared.outcome.Item.TheVariants.{KeyTo, ClickTo}
 use Rattle.ibos_kinds.specs.declared.outcome.Outcome.{Outcome}
 use Rattle.ibos_kinds.specs.declared.cookies.Cookie.{Cookie}
 use Rattle.ibos_origin.specs.Hosts.{HostTable}
@@ -12,7 +14,8 @@ use Rattle.ibos_origin.specs.Pages.{Page, allowed}
 use Rattle.ibos_model.specs.Journal.{is_ok}
 use Rattle.ibos_model.specs.Tabs.{Life, Unborn, Alive, Gone}
 use Rattle.ibos_model.specs.Jars.{with_set}
-use Rattle.ibos_model.specs.Outcomes.{accepted, admitted, go_outcome, draw_outcome, set_outcome, get_outcome}
+use Rattle.ibos_model.specs.Outcomes.{accepted, admitted, go_outcome, draw_outcome, set_outcome}
+use Rattle.ibos_model.specs.Outcomes.{get_outcome}
 use Rattle.ibos_kinds.specs.declared.party.Party.TheVariants.{Page as PageOf}
 use Rattle.ibos_model.specs.Folds.{counted, given}
 use Rattle.ibos_model.specs.Delivered.{Delivery, Answer, Told, told}
@@ -30,7 +33,8 @@ newborn = record { life = Unborn; sets = [] }
 abbrev pub own_outcome : HostTable → List ℕ → Act → Mine → Outcome
 own_outcome H o (CookieSet side who text) m = set_outcome text m.sets
 own_outcome H o (CookieGet side who) m = get_outcome who m.sets
-own_outcome H o (Go who url) m = go_outcome who o (record { tab = who.tab; ord = who.ord + 1 }) (allowed H url)
+own_outcome H o (Go who url) m = go_outcome who o (record { tab = who.tab; ord = who.ord + 1 })
+    (allowed H url)
 own_outcome H o (Draw who row col height width pixels) m = draw_outcome row col height width pixels
 own_outcome H o other m = accepted []
 
@@ -39,7 +43,8 @@ abbrev pub own_out : HostTable → List ℕ → Act → Mine → Outcome
 own_out H o a m = admitted m.life (own_outcome H o a m)
 
 abbrev pub life_after_go : Instance → List ℕ → Result Page Rule → Life
-life_after_go who o (Ok page) = if bytes_eq page.origin o then Alive else if nat_lt who.ord 31 then Gone else Alive
+life_after_go who o (Ok page) = if bytes_eq page.origin o then Alive else if nat_lt who.ord 31
+    then Gone else Alive
 life_after_go who o (Err rule) = Alive
 
 abbrev pub life_after : Instance → List ℕ → Result Page Rule → Life → Life
@@ -49,7 +54,8 @@ life_after who o r Gone = Gone
 
 -- what one of its acts changes
 abbrev pub own_after : HostTable → List ℕ → Act → Mine → Mine
-own_after H o (CookieSet side who text) m = record m { sets = with_set (is_ok (own_out H o (CookieSet side who text) m).head) text m.sets }
+own_after H o (CookieSet side who text) m = record m
+    { sets = with_set (is_ok (own_out H o (CookieSet side who text) m).head) text m.sets }
 own_after H o (Go who url) m = record m { life = life_after who o (allowed H url) m.life }
 own_after H o other m = m
 

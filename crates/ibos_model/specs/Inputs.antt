@@ -1,5 +1,7 @@
 -- What a command line and the files that it names ask for, and the text that comes of it.
-use Rattle.std.specs.Prelude.{ℕ, ◌+◌, List, [], ◌∷◌, ◌++◌, Bool, true, false, ◌&&◌, nat_lt, bytes_eq, length, take, codes, decimal, Option, Some, None, Result, Ok, Err, if◌then◌else◌}
+use Rattle.std.specs.Prelude.{ℕ, ◌+◌, List, [], ◌∷◌, ◌++◌, Bool, true, false, ◌&&◌, nat_lt}
+use Rattle.std.specs.Prelude.{bytes_eq, length, take, codes, decimal, Option, Some, None, Result}
+use Rattle.std.specs.Prelude.{Ok, Err, if◌then◌else◌}
 use Rattle.ibos_kinds.specs.declared.act.Act.{Act}
 use Rattle.ibos_script.specs.declared.fault.LineFault.{LineFault}
 use Rattle.ibos_script.specs.declared.lines.Line.{Line}
@@ -24,7 +26,8 @@ pub record Form : Type 0 where
   pub script : List ℕ
 
 abbrev pub form_of : Bool → List ℕ → List ℕ → Option Form
-form_of is_run hosts script = if is_run then Some (record { hosts = hosts; script = script }) else None
+form_of is_run hosts script = if is_run then Some (record { hosts = hosts; script = script })
+    else None
 
 abbrev pub form_in : List (List ℕ) → Option Form
 form_in (verb ∷ hosts ∷ script ∷ []) = form_of (bytes_eq verb (codes "run")) hosts script
@@ -47,8 +50,8 @@ file_word Hosts = codes "hosts"
 file_word Capture = codes "capture"
 file_word Script = codes "script"
 
--- the first fault of the inputs: the file that has it, the line (from 1) or the capture's entry (from 1, and 0 for its
--- header), and the fault's number and name
+-- the first fault of the inputs: the file that has it, the line (from 1) or the capture's entry
+-- (from 1, and 0 for its header), and the fault's number and name
 pub record Refusal : Type 0 where
   pub file : File
   pub place : ℕ
@@ -75,10 +78,17 @@ abbrev pub refused_by : Refusal → Reading
 refused_by refusal = record { acts = []; refused = Some refusal }
 
 abbrev pub line_refusal : ℕ → LineFault → Refusal
-line_refusal line fault = record { file = Script; place = line; number = number_of fault; name = name_of fault }
+line_refusal line fault = record {
+  file = Script;
+  place = line;
+  number = number_of fault;
+  name = name_of fault;
+}
 
--- what is read from a line on with the frames that are left, where that is what the lines behind it give
-abbrev pub reading_by : ℕ → Result (Option Line) LineFault → List (List ℕ) → (List (List ℕ) → Reading) → Reading
+-- what is read from a line on with the frames that are left, where that is what the lines behind it
+-- give
+abbrev pub reading_by : ℕ → Result (Option Line) LineFault → List (List ℕ)
+    → (List (List ℕ) → Reading) → Reading
 reading_by number (Ok None) frames next = next frames
 reading_by number (Ok (Some (ActLine act))) frames next = onto_acts act (next frames)
 reading_by number (Err fault) frames next = refused_by (line_refusal number fault)
@@ -91,8 +101,8 @@ abbrev pub is_last : List (List ℕ) → Bool
 is_last [] = true
 is_last (line ∷ lines) = false
 
--- what lines give from one of that number on, with the frames that are left; where the text passes the limit, its last
--- line is too long
+-- what lines give from one of that number on, with the frames that are left; where the text passes
+-- the limit, its last line is too long
 abbrev pub reading_from : Bool → ℕ → List (List ℕ) → List (List ℕ) → Reading
 reading_from passes number [] frames = record { acts = []; refused = None }
 reading_from passes number (line ∷ lines) frames =
@@ -114,7 +124,12 @@ unfoldable pub table_in : List ℕ → List ℕ
 table_in file = take 4194305 file
 
 abbrev pub host_refusal : ℕ × HostFault → Refusal
-host_refusal fault = record { file = Hosts; place = fault.0; number = host.number_of fault.1; name = host.name_of fault.1 }
+host_refusal fault = record {
+  file = Hosts;
+  place = fault.0;
+  number = host.number_of fault.1;
+  name = host.name_of fault.1;
+}
 
 -- ---- what is asked for
 
@@ -170,7 +185,8 @@ wanted NoForm W = usage_line
 wanted (NoHosts refusal) W = refusal_line refusal
 wanted (Session H reading) W = session_text H reading W
 
--- In the journal of the inputs, if there is one, each instance is told what the facts that concern it give.
+-- In the journal of the inputs, if there is one, each instance is told what the facts that concern
+-- it give.
 abbrev pub IsIsolatedInput : List (List ℕ) → Input → Type 0
 IsIsolatedInput W NoForm = Unit {0}
 IsIsolatedInput W (NoHosts refusal) = Unit {0}

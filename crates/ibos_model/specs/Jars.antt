@@ -13,7 +13,8 @@ use Rattle.ibos_model.specs.Tabs.{origin_of}
 -- the names of accepted sets, the newest set first, in the order of their first set
 abbrev pub names : List Cookie → List (List ℕ)
 names [] = []
-names (set ∷ older) = if list_any (bytes_eq set.name) (names older) then names older else names older ++ set.name ∷ []
+names (set ∷ older) = if list_any (bytes_eq set.name) (names older) then names older
+    else names older ++ set.name ∷ []
 
 -- the last value of a name
 abbrev pub value_of : List Cookie → List ℕ → List ℕ
@@ -29,7 +30,8 @@ abbrev pub with_set : Bool → List ℕ → List Cookie → List Cookie
 with_set counts text older = if counts then cookie_in text ∷ older else older
 
 abbrev pub sets_by : (Instance → List ℕ) → List ℕ → Bool → Act → List Cookie → List Cookie
-sets_by origins o ok (CookieSet side who text) older = with_set (ok && bytes_eq (origins who) o) text older
+sets_by origins o ok (CookieSet side who text) older = with_set (ok
+    && bytes_eq (origins who) o) text older
 sets_by origins o ok other older = older
 
 -- the accepted sets by instances of an origin, the newest first

@@ -1,4 +1,5 @@
--- Journals: what was done, and what came of it. The host table of the run stands beside the journal.
+-- Journals: what was done, and what came of it. The host table of the run stands beside the
+-- journal.
 use Rattle.std.specs.Prelude.{ℕ, List, [], ◌∷◌, ◌++◌, Bool, true, false, if◌then◌else◌}
 pub use Rattle.ibos_kinds.specs.Parties.{same}
 use Rattle.ibos_kinds.specs.declared.act.Act.{Act}
@@ -24,7 +25,8 @@ is_ok (Denied rule) = false
 abbrev pub is_accepted : Entry → Bool
 is_accepted e = is_ok e.outcome.head
 
--- what an act has to do with the device's log: its frame was heard, one was sent, or nothing of these
+-- what an act has to do with the device's log: its frame was heard, one was sent, or nothing of
+-- these
 pub data Kind : Type 0 where
   Hears : Kind
   Sends : Kind

@@ -1,5 +1,6 @@
 -- The laws of journals.
-use Rattle.std.specs.Prelude.{ℕ, ◌≡◌, List, ◌∷◌, ◌++◌, Bool, false, ◌&&◌, ◌||◌, length, take, Option, Some}
+use Rattle.std.specs.Prelude.{ℕ, ◌≡◌, List, ◌∷◌, ◌++◌, Bool, false, ◌&&◌, ◌||◌, length, take}
+use Rattle.std.specs.Prelude.{Option, Some}
 use Rattle.ibos_kinds.specs.declared.names.Instance.{Instance}
 use Rattle.ibos_kinds.specs.declared.act.Act.{Act}
 use Rattle.ibos_origin.specs.Hosts.{HostTable}
@@ -27,12 +28,15 @@ IsIsolated = (H : HostTable) (A : List Act) (W : List (List ℕ)) (p : Instance)
 
 -- The same of one journal.
 abbrev pub IsIsolatedIn : HostTable → Journal → Type 0
-IsIsolatedIn H J = (p : Instance) (o : List ℕ) → Suits H p o J → delivered (Page p) J ≡ gives H p o (facts H p o J)
+IsIsolatedIn H J = (p : Instance) (o : List ℕ) → Suits H p o J
+    → delivered (Page p) J ≡ gives H p o (facts H p o J)
 
 -- Two runs whose facts agree deliver the same.
 abbrev pub IsIsolatedOverTwo : Type 0
-IsIsolatedOverTwo = (H : HostTable) (A B : List Act) (V W : List (List ℕ)) (p : Instance) (o : List ℕ) →
-    Suits H p o (run H A V) → Suits H p o (run H B W) → facts H p o (run H A V) ≡ facts H p o (run H B W) →
+IsIsolatedOverTwo = (H : HostTable) (A B : List Act) (V W : List (List ℕ)) (p : Instance)
+    (o : List ℕ) →
+    Suits H p o (run H A V) → Suits H p o (run H B W)
+    → facts H p o (run H A V) ≡ facts H p o (run H B W) →
     delivered (Page p) (run H A V) ≡ delivered (Page p) (run H B W)
 
 -- What one entry tells an instance is what the facts that it adds give.
@@ -53,16 +57,18 @@ abbrev pub goes_active : Option Instance → Act → Bool
 goes_active active (Go who url) = is_active who active
 goes_active active other = false
 
--- The chrome's rows change only by an accepted act of the user, and by an accepted `go` of the active instance. So a
--- denied act, a draw, and an act of a network process leave them.
+-- The chrome's rows change only by an accepted act of the user, and by an accepted `go` of the
+-- active instance. So a denied act, a draw, and an act of a network process leave them.
 abbrev pub IsChromeKept : Type 0
 IsChromeKept = (H : HostTable) (J : Journal) (e : Entry) (r : ℕ) → IsRun H (e ∷ J) →
-    (is_accepted e && (is_users e.act || goes_active (active_of H J) e.act)) ≡ false → chrome_of H (e ∷ J) r ≡ chrome_of H J r
+    (is_accepted e && (is_users e.act || goes_active (active_of H J) e.act)) ≡ false
+    → chrome_of H (e ∷ J) r ≡ chrome_of H J r
 
--- Row 1 of the chrome, the address bar, begins with the active instance's whole origin, where the host table has plain
--- names, as each one has that was read.
+-- Row 1 of the chrome, the address bar, begins with the active instance's whole origin, where the
+-- host table has plain names, as each one has that was read.
 abbrev pub IsOriginShown : Type 0
-IsOriginShown = (H : HostTable) (J : Journal) (who : Instance) → HasPlainNames H → active_of H J ≡ Some who →
+IsOriginShown = (H : HostTable) (J : Journal) (who : Instance) → HasPlainNames H
+    → active_of H J ≡ Some who →
     take (length (origin_of H J who)) (chrome_of H J 1) ≡ origin_of H J who
 
 -- One set more puts its cookie into the jar: it keeps the place of its name, or goes last.
@@ -78,11 +84,18 @@ pub record Views : Type 0 where
   pub screen : ℕ → ℕ → ℕ
 
 abbrev pub views : HostTable → Journal → Views
-views H J = record { tabs = tabs H J; focus = focus_of J; sets = sets_of H J; cells = cell_of J; screen = screen H J }
+views H J = record {
+  tabs = tabs H J;
+  focus = focus_of J;
+  sets = sets_of H J;
+  cells = cell_of J;
+  screen = screen H J;
+}
 
 -- A denied entry changes nothing.
 abbrev pub IsUnchanged : Type 0
-IsUnchanged = (H : HostTable) (J : Journal) (e : Entry) → is_accepted e ≡ false → views H (e ∷ J) ≡ views H J
+IsUnchanged = (H : HostTable) (J : Journal) (e : Entry) → is_accepted e ≡ false
+    → views H (e ∷ J) ≡ views H J
 
 -- What acts make of a host table is a run, whatever the device writes.
 abbrev pub AreRuns : Type 0

@@ -1,5 +1,6 @@
 -- The outcome of each act: its first broken rule, or its items.
-use Rattle.std.specs.Prelude.{ℕ, ◌+◌, ◌-◌, zero, suc, List, [], ◌∷◌, not, nat_lt, Ok, Err, Result, Option, Some, None, bytes_eq, if◌then◌else◌}
+use Rattle.std.specs.Prelude.{ℕ, ◌+◌, ◌-◌, zero, suc, List, [], ◌∷◌, not, nat_lt, Ok, Err, Result}
+use Rattle.std.specs.Prelude.{Option, Some, None, bytes_eq, if◌then◌else◌}
 use Rattle.ibos_kinds.specs.declared.names.Instance.{Instance}
 use Rattle.ibos_kinds.specs.declared.party.Party.{Party}
 use Rattle.ibos_kinds.specs.declared.party.Party.TheVariants.{Page as PageOf}
@@ -9,10 +10,12 @@ use Rattle.ibos_kinds.specs.declared.rule.Rule.TheVariants.{U1, U2, U3, U10, U12
 use Rattle.ibos_kinds.specs.declared.names.Key.{Key}
 use Rattle.ibos_kinds.specs.declared.names.Key.TheVariants.{Enter}
 use Rattle.ibos_kinds.specs.declared.act.Act.{Act}
-use Rattle.ibos_kinds.specs.declared.act.Act.TheVariants.{Start, Switch, Close, Press, Click, Look, Go, Draw, CookieSet, CookieGet}
+use Rattle.ibos_kinds.specs.declared.act.Act.TheVariants.{Start, Switch, Close, Press, Click, Look}
+use Rattle.ibos_kinds.specs.declared.act.Act.TheVariants.{Go, Draw, CookieSet, CookieGet}
 use Rattle.ibos_kinds.specs.declared.outcome.Head.TheVariants.{Ok as Fine, Denied}
 use Rattle.ibos_kinds.specs.declared.outcome.Item.{Item}
-use Rattle.ibos_kinds.specs.declared.outcome.Item.TheVariants.{Opened, Moved, Ended, KeyTo, ClickTo, Cookies, RowIs}
+use Rattle.ibos_kinds.specs.declared.outcome.Item.TheVariants.{Opened, Moved, Ended, KeyTo, ClickTo}
+use Rattle.ibos_kinds.specs.declared.outcome.Item.TheVariants.{Cookies, RowIs}
 use Rattle.ibos_kinds.specs.declared.outcome.Outcome.{Outcome}
 use Rattle.ibos_kinds.specs.declared.cookies.Cookie.{Cookie}
 use Rattle.ibos_kinds.specs.Cookies.{set_breaks, jar_text}
@@ -22,7 +25,8 @@ use Rattle.ibos_origin.specs.Hosts.{HostTable}
 use Rattle.ibos_origin.specs.Pages.{Page, allowed}
 use Rattle.ibos_model.specs.Journal.{Journal}
 use Rattle.ibos_model.specs.Focus.{Focus, focus_of}
-use Rattle.ibos_model.specs.Tabs.{Tabs, Life, Unborn, Alive, Gone, tabs, next_in, life_of, origin_in, origin_of, active_of}
+use Rattle.ibos_model.specs.Tabs.{Tabs, Life, Unborn, Alive, Gone, tabs, next_in, life_of}
+use Rattle.ibos_model.specs.Tabs.{origin_in, origin_of, active_of}
 use Rattle.ibos_model.specs.Jars.{jar, sets_of}
 use Rattle.ibos_model.specs.Screen.{screen, seen_row}
 
@@ -68,11 +72,13 @@ close_outcome (Some who) = accepted (Ended who ∷ [])
 
 -- an instance leaves its origin: it ends, and the tab's next one opens, if there is one
 abbrev pub leave_outcome : Instance → Instance → Page → Outcome
-leave_outcome who next page = if nat_lt who.ord 31 then accepted (Ended who ∷ Opened next page.url ∷ []) else denied U3
+leave_outcome who next page = if nat_lt who.ord 31
+    then accepted (Ended who ∷ Opened next page.url ∷ []) else denied U3
 
 -- an instance goes to a page of its origin or of another
 abbrev pub go_outcome : Instance → List ℕ → Instance → Result Page Rule → Outcome
-go_outcome who origin next (Ok page) = if bytes_eq page.origin origin then accepted (Moved who page.url ∷ []) else leave_outcome who next page
+go_outcome who origin next (Ok page) = if bytes_eq page.origin origin
+    then accepted (Moved who page.url ∷ []) else leave_outcome who next page
 go_outcome who origin next (Err rule) = denied rule
 
 -- a key with the focus at the content goes to the active instance
@@ -91,7 +97,8 @@ entry_key_outcome H t entry active Enter = enter_outcome t active (allowed H ent
 entry_key_outcome H t entry active key = answer (key_breaks entry key)
 
 abbrev pub press_outcome : HostTable → Tabs → Focus → Option Instance → Key → Outcome
-press_outcome H t f active key = if f.at_entry_line then entry_key_outcome H t f.entry_line active key else page_key_outcome active key
+press_outcome H t f active key = if f.at_entry_line
+    then entry_key_outcome H t f.entry_line active key else page_key_outcome active key
 
 -- a click on the content goes to the active instance, by the content's own rows
 abbrev pub content_click_outcome : Option Instance → ℕ → ℕ → Outcome
@@ -117,14 +124,16 @@ draw_outcome row col height width pixels = answer (draw_breaks row col height wi
 
 -- the outcome of an act after a journal, where its actor may act
 abbrev pub act_outcome : HostTable → Journal → Act → Outcome
-act_outcome H J (Start tab url) = start_outcome ((tabs H J).live tab) (next_in (tabs H J) tab) (allowed H url)
+act_outcome H J (Start tab url) = start_outcome ((tabs H J).live tab) (next_in (tabs H J) tab)
+    (allowed H url)
 act_outcome H J (Switch tab) = switch_outcome ((tabs H J).live tab)
 act_outcome H J (Close tab) = close_outcome ((tabs H J).live tab)
 act_outcome H J (Press key) = press_outcome H (tabs H J) (focus_of J) (active_of H J) key
 act_outcome H J (Click row col) = click_outcome (active_of H J) row col
 act_outcome H J Look = look_outcome (seen_row (screen H J))
 act_outcome H J (Draw who row col height width pixels) = draw_outcome row col height width pixels
-act_outcome H J (Go who url) = go_outcome who (origin_of H J who) (next_in (tabs H J) who.tab) (allowed H url)
+act_outcome H J (Go who url) = go_outcome who (origin_of H J who) (next_in (tabs H J) who.tab)
+    (allowed H url)
 act_outcome H J (CookieSet side who text) = set_outcome text (sets_of H J (origin_of H J who))
 act_outcome H J (CookieGet side who) = get_outcome who (sets_of H J (origin_of H J who))
 

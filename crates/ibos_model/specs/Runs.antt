@@ -39,7 +39,12 @@ left_by false W = W
 
 -- the entry of an act; what the device wrote for a heard one is the next of the list
 abbrev pub entry_of : HostTable → Journal → List (List ℕ) → Act → Entry
-entry_of H J W a = record { act = a; outcome = out H J a; written = written_by (is_heard (out H J a)) W }
+entry_of H J W a = record {
+  act = a;
+  outcome = out H J a;
+  written = written_by
+      (is_heard (out H J a)) W;
+}
 
 abbrev pub run_from : HostTable → Journal → List Act → List (List ℕ) → Journal
 run_from H J [] W = J
@@ -49,6 +54,7 @@ run_from H J (a ∷ A) W = run_from H (entry_of H J W a ∷ J) A (left_by (is_he
 abbrev pub run : HostTable → List Act → List (List ℕ) → Journal
 run H A W = run_from H [] A W
 
--- whatever will be heard, the run goes on from a journal, by the acts that are left, to the run of all
+-- whatever will be heard, the run goes on from a journal, by the acts that are left, to the run of
+-- all
 abbrev pub GoesOn : HostTable → Journal → List Act → List Act → Type 0
 GoesOn H J left all = (W : List (List ℕ)) → run_from H J left W ≡ run H all (heard J ++ W)

@@ -1,5 +1,8 @@
--- The screen of 25 rows of 80 cells: three rows that the chrome writes, and the content of the active instance.
-use Rattle.std.specs.Prelude.{ℕ, ◌+◌, ◌-◌, List, [], ◌∷◌, ◌++◌, zero, suc, Bool, ◌==◌, ◌&&◌, nat_lt, length, map, take, drop, slice_index, codes, decimal, Option, Some, None, if◌then◌else◌}
+-- The screen of 25 rows of 80 cells: three rows that the chrome writes, and the content of the
+-- active instance.
+use Rattle.std.specs.Prelude.{ℕ, ◌+◌, ◌-◌, List, [], ◌∷◌, ◌++◌, zero, suc, Bool, ◌==◌, ◌&&◌, nat_lt}
+use Rattle.std.specs.Prelude.{length, map, take, drop, slice_index, codes, decimal, Option, Some}
+use Rattle.std.specs.Prelude.{None, if◌then◌else◌}
 use Rattle.ibos_kinds.specs.declared.names.Instance.{Instance}
 use Rattle.ibos_kinds.specs.declared.act.Act.{Act}
 use Rattle.ibos_kinds.specs.declared.act.Act.TheVariants.{Draw}
@@ -19,11 +22,13 @@ place_text at_entry_line = if at_entry_line then codes " entry" else codes " pag
 -- row 0, the state: which instance is active, and what gets the keys
 unfoldable pub state_text : Option Instance → Bool → List ℕ
 state_text None at_entry_line = codes "no tab"
-state_text (Some who) at_entry_line = codes "tab " ++ decimal who.tab ++ codes "." ++ decimal who.ord ++ place_text at_entry_line
+state_text (Some who) at_entry_line = codes "tab " ++ decimal who.tab ++ codes "."
+    ++ decimal who.ord ++ place_text at_entry_line
 
 -- row 1, the address bar: the URL, cut where it is too long, which a `>` in the last cell says
 unfoldable pub bar_text : List ℕ → List ℕ
-bar_text url = map chrome_byte (if nat_lt columns (length url) then take 79 url ++ codes ">" else url)
+bar_text url = map chrome_byte (if nat_lt columns (length url) then take 79 url ++ codes ">"
+    else url)
 
 abbrev pub bar_of : Tabs → Option Instance → List ℕ
 bar_of t None = []
@@ -31,7 +36,8 @@ bar_of t (Some who) = bar_text (t.url who)
 
 -- row 2, the entry line: the end of what is typed, with a `<` in the first cell where there is more
 unfoldable pub entry_line_text : List ℕ → List ℕ
-entry_line_text entry = map chrome_byte (if nat_lt columns (length entry) then codes "<" ++ drop (length entry - 79) entry else entry)
+entry_line_text entry = map chrome_byte (if nat_lt columns (length entry) then codes "<"
+    ++ drop (length entry - 79) entry else entry)
 
 -- the texts of rows 0 to 2
 abbrev pub chrome_in : Tabs → Focus → ℕ → List ℕ
@@ -44,7 +50,8 @@ chrome_of H J r = chrome_in (tabs H J) (focus_of J) r
 
 -- a cell of an instance's content, by a draw or as it was
 abbrev pub cell_by : Instance → ℕ → ℕ → Bool → Act → ℕ → ℕ
-cell_by p r c ok (Draw who row col height width pixels) old = if ok && same who p then cell_after row col height width pixels r c old else old
+cell_by p r c ok (Draw who row col height width pixels) old = if ok && same who p
+    then cell_after row col height width pixels r c old else old
 cell_by p r c ok other old = old
 
 -- a cell of an instance's content: that of its last accepted draw which has the cell, or a space

@@ -1,5 +1,6 @@
 -- Which instances started, live and ended, and what they show.
-use Rattle.std.specs.Prelude.{ℕ, ◌+◌, List, [], ◌∷◌, Bool, true, false, ◌==◌, ◌&&◌, option_and_then, Option, Some, None, Ok, Err, Result, bytes_eq, if◌then◌else◌}
+use Rattle.std.specs.Prelude.{ℕ, ◌+◌, List, [], ◌∷◌, Bool, true, false, ◌==◌, ◌&&◌, option_and_then}
+use Rattle.std.specs.Prelude.{Option, Some, None, Ok, Err, Result, bytes_eq, if◌then◌else◌}
 use Rattle.ibos_kinds.specs.declared.names.Instance.{Instance}
 use Rattle.ibos_kinds.specs.declared.rule.Rule.{Rule}
 use Rattle.ibos_kinds.specs.declared.act.Act.{Act}
@@ -22,7 +23,13 @@ pub record Tabs : Type 0 where
   pub is_gone : Instance → Bool
 
 abbrev pub no_tabs : Tabs
-no_tabs = record { count = λ tab. 0; live = λ tab. None; page = λ p. None; url = λ p. []; is_gone = λ p. false }
+no_tabs = record {
+  count = λ tab. 0;
+  live = λ tab. None;
+  page = λ p. None;
+  url = λ p. [];
+  is_gone = λ p. false;
+}
 
 -- unborn, alive or gone
 pub data Life : Type 0 where
@@ -85,7 +92,8 @@ end (Some who) = Ends who ∷ []
 
 -- an instance goes to a page, within its origin or out of it
 abbrev pub leave : Tabs → Instance → Result Page Rule → List Change
-leave t who (Ok page) = if bytes_eq page.origin (origin_in t who) then Moves who page.url ∷ [] else Ends who ∷ Opens (next_in t who.tab) page ∷ []
+leave t who (Ok page) = if bytes_eq page.origin (origin_in t who) then Moves who page.url ∷ []
+    else Ends who ∷ Opens (next_in t who.tab) page ∷ []
 leave t who (Err rule) = []
 
 abbrev pub if_ok : Bool → List Change → List Change
@@ -104,7 +112,8 @@ entering t (Some who) r = leave t who r
 abbrev pub changes : HostTable → Tabs → Focus → Bool → Act → List Change
 changes H t f ok (Start tab url) = if_ok ok (opening t tab (allowed H url))
 changes H t f ok (Close tab) = if_ok ok (end (t.live tab))
-changes H t f ok (Press Enter) = if_ok (ok && f.at_entry_line) (entering t (active_in t f) (allowed H f.entry_line))
+changes H t f ok (Press Enter) = if_ok (ok
+    && f.at_entry_line) (entering t (active_in t f) (allowed H f.entry_line))
 changes H t f ok (Go who url) = if_ok ok (leave t who (allowed H url))
 changes H t f ok other = []
 

@@ -1,8 +1,10 @@
-//! Journals of acts and outcomes, what they mean, and the laws that every run keeps. There is nothing to
-//! run here: each function is a law, which its contract states.
+//! Journals of acts and outcomes, what they mean, and the laws that every run keeps. There is
+//! nothing to run here: each function is a law, which its contract states.
 #![tactic(auto)]
 
-ghost use Rattle.ibos_model.specs.Laws.{AreFronts, AreOfTheirActs, AreRuns, AreSetsPut, DoGoOn, IsIsolated, IsIsolatedOverTwo, IsCarriedAlways, IsChromeKept, IsOriginShown, IsUnchanged};
+ghost use Rattle.ibos_model.specs.Laws.{AreFronts, AreOfTheirActs, AreRuns, AreSetsPut, DoGoOn};
+ghost use Rattle.ibos_model.specs.Laws.{IsIsolated, IsIsolatedOverTwo, IsCarriedAlways};
+ghost use Rattle.ibos_model.specs.Laws.{IsChromeKept, IsOriginShown, IsUnchanged};
 
 use ibos_origin::{origins_are_printable, urls_begin_with_their_origin};
 
@@ -21,8 +23,8 @@ pub fn isolation_of_each_entry()
     ensures { IsCarriedAlways }
 {}
 
-/// The chrome's rows change only by an accepted act of the user and by an accepted `go` of the active
-/// instance: no denied act, draw or act of a network process reaches them.
+/// The chrome's rows change only by an accepted act of the user and by an accepted `go` of the
+/// active instance: no denied act, draw or act of a network process reaches them.
 pub fn chrome_is_kept()
     ensures { IsChromeKept }
 {}
@@ -32,8 +34,9 @@ pub fn sets_are_put()
     ensures { AreSetsPut }
 {}
 
-/// The address bar begins with the active instance's origin, whole, whatever the length of its URL. The
-/// host table has plain names, as each one has that was read (`ibos_origin::hosts_have_plain_names`).
+/// The address bar begins with the active instance's origin, whole, whatever the length of its URL.
+/// The host table has plain names, as each one has that was read
+/// (`ibos_origin::hosts_have_plain_names`).
 pub fn origins_show_whole()
     ensures { IsOriginShown }
 {
@@ -57,7 +60,8 @@ pub fn runs_are_of_their_acts()
     ensures { AreOfTheirActs }
 {}
 
-/// A journal from which a run goes on, whatever will be heard, still does after the entry of the next act.
+/// A journal from which a run goes on, whatever will be heard, still does after the entry of the
+/// next act.
 pub fn runs_go_on()
     ensures { DoGoOn }
 {}

@@ -1,5 +1,6 @@
 -- Where the pages of an origin are, by the origin's text alone (RFC 6454, section 6.2).
-use Rattle.std.specs.Prelude.{ℕ, List, [], ◌∷◌, take, drop, codes, bytes_eq, Option, None, option_map, if◌then◌else◌}
+use Rattle.std.specs.Prelude.{ℕ, List, [], ◌∷◌, take, drop, codes, bytes_eq, Option, None}
+use Rattle.std.specs.Prelude.{option_map, if◌then◌else◌}
 use Rattle.std.specs.Str.Parse.{digits_value}
 use Rattle.ibos_kinds.specs.declared.names.Endpoint.{Endpoint}
 use Rattle.ibos_text.specs.Parts.{len_before}

@@ -1,7 +1,8 @@
 -- The number and the name of each fault of a host table.
 use Rattle.std.specs.Prelude.{ℕ, List, codes}
 use Rattle.ibos_origin.specs.declared.fault.HostFault.{HostFault}
-use Rattle.ibos_origin.specs.declared.fault.HostFault.TheVariants.{Form, Twice, Many, NoSelf, TooLong}
+use Rattle.ibos_origin.specs.declared.fault.HostFault.TheVariants.{Form, Twice, Many, NoSelf}
+use Rattle.ibos_origin.specs.declared.fault.HostFault.TheVariants.{TooLong}
 
 abbrev pub number_of : HostFault → ℕ
 number_of Form = 1

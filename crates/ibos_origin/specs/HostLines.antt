@@ -1,5 +1,7 @@
 -- What each line of the host table says.
-use Rattle.std.specs.Prelude.{ℕ, List, [], ◌∷◌, Bool, true, ◌==◌, ◌&&◌, ◌||◌, nat_lt, nat_le, length, bytes_eq, codes, Option, Some, None, option_map, if◌then◌else◌}
+use Rattle.std.specs.Prelude.{ℕ, List, [], ◌∷◌, Bool, true, ◌==◌, ◌&&◌, ◌||◌, nat_lt, nat_le}
+use Rattle.std.specs.Prelude.{length, bytes_eq, codes, Option, Some, None, option_map}
+use Rattle.std.specs.Prelude.{if◌then◌else◌}
 use Rattle.std.specs.List.{list_all}
 use Rattle.ibos_text.specs.Words.{words_of}
 use Rattle.ibos_origin.specs.Addresses.{addr_in, mac_in}
@@ -12,7 +14,8 @@ pub data HostLine : Type 0 where
 
 -- `a` to `z`, `0` to `9`, `-`, `.` and `_`
 abbrev pub is_name_byte : ℕ → Bool
-is_name_byte b = (nat_le 97 b && nat_le b 122) || (nat_le 48 b && nat_le b 57) || b == 45 || b == 46 || b == 95
+is_name_byte b = (nat_le 97 b && nat_le b 122) || (nat_le 48 b && nat_le b 57) || b == 45 || b == 46
+    || b == 95
 
 -- 1 to 253 such bytes
 abbrev pub is_name : List ℕ → Bool

@@ -13,7 +13,8 @@ pub record HostTable : Type 0 where
 
 -- the address of the first line of that name
 abbrev pub address_of : List Host → List ℕ → Option ℕ
-address_of hosts name = option_map (λ host. host.addr) (find (λ host. bytes_eq host.name name) hosts)
+address_of hosts name = option_map (λ host.
+    host.addr) (find (λ host. bytes_eq host.name name) hosts)
 
 abbrev pub host_of : List ℕ → ℕ → Host
 host_of name addr = record { name = name; addr = addr }

@@ -1,5 +1,6 @@
 -- Which URLs are allowed, and the page of each.
-use Rattle.std.specs.Prelude.{ℕ, List, not, nat_lt, length, Option, Some, None, option_map, unwrap_or, Result, Ok, Err, if◌then◌else◌}
+use Rattle.std.specs.Prelude.{ℕ, List, not, nat_lt, length, Option, Some, None, option_map}
+use Rattle.std.specs.Prelude.{unwrap_or, Result, Ok, Err, if◌then◌else◌}
 use Rattle.std.specs.Option.{option_or}
 use Rattle.std.specs.Str.{is_utf8}
 use Rattle.url.specs.Parser.{Parsed, parse_url}
@@ -32,7 +33,12 @@ port_of url = unwrap_or (option_or url.port (default_port url.scheme)) 0
 
 abbrev pub page_at : Parts → Option ℕ → Result Page Rule
 page_at url None = Err U9
-page_at url (Some addr) = Ok (record { url = serialize url; origin = origin_text url; addr = addr; port = port_of url })
+page_at url (Some addr) = Ok (record {
+  url = serialize url;
+  origin = origin_text url;
+  addr = addr;
+  port = port_of url;
+})
 
 abbrev pub address_at : HostTable → Option (List ℕ) → Option ℕ
 address_at H None = None

@@ -1,10 +1,14 @@
 -- The host table that a text writes, or its first fault and the line of that.
-use Rattle.std.specs.Prelude.{◌≡◌, ℕ, ◌+◌, ◌^◌, ◌<◌, true, bytes_eq, List, [], ◌∷◌, ◌++◌, nat_lt, nat_le, length, fold, Option, Some, None, is_some, Result, Ok, Err, if◌then◌else◌}
+use Rattle.std.specs.Prelude.{◌≡◌, ℕ, ◌+◌, ◌^◌, ◌<◌, true, bytes_eq, List, [], ◌∷◌, ◌++◌, nat_lt}
+use Rattle.std.specs.Prelude.{nat_le, length, fold, Option, Some, None, is_some, Result, Ok, Err}
+use Rattle.std.specs.Prelude.{if◌then◌else◌}
 use Rattle.ibos_origin.specs.declared.fault.HostFault.{HostFault}
-use Rattle.ibos_origin.specs.declared.fault.HostFault.TheVariants.{Form, Twice, Many, NoSelf, TooLong}
+use Rattle.ibos_origin.specs.declared.fault.HostFault.TheVariants.{Form, Twice, Many, NoSelf}
+use Rattle.ibos_origin.specs.declared.fault.HostFault.TheVariants.{TooLong}
 use Rattle.ibos_text.specs.Lines.{lines_of}
 use Rattle.std.specs.List.{list_all, IsDistinct}
-use Rattle.ibos_origin.specs.HostLines.{HostLine, is_name_byte, is_name, Nothing, Own, Gateway, Named, host_line_in}
+use Rattle.ibos_origin.specs.HostLines.{HostLine, is_name_byte, is_name, Nothing, Own, Gateway}
+use Rattle.ibos_origin.specs.HostLines.{Named, host_line_in}
 use Rattle.ibos_origin.specs.Hosts.{Host, HostTable, address_of, host_of, names_of}
 
 -- each host's name has the bytes of a name
@@ -53,10 +57,12 @@ at_line number (Ok table) = Ok table
 at_line number (Err fault) = Err (number, fault)
 
 -- one more line, unless an earlier one has a fault
-abbrev pub with_line : Result PartialTable (ℕ × HostFault) → List ℕ → Result PartialTable (ℕ × HostFault)
+abbrev pub with_line : Result PartialTable (ℕ × HostFault) → List ℕ
+    → Result PartialTable (ℕ × HostFault)
 with_line (Err fault) line = Err fault
 with_line (Ok table) line =
-    at_line (table.lines + 1) (with_host_line (record table { lines = table.lines + 1 }) (host_line_in line))
+    at_line (table.lines + 1) (with_host_line (record table { lines = table.lines + 1 })
+    (host_line_in line))
 
 -- both the own addresses and the gateway have to be there in the end
 abbrev pub table_with : ℕ → Option (ℕ × ℕ) → Option ℕ → List Host → Result HostTable (ℕ × HostFault)

@@ -21,8 +21,8 @@ pub fn addr_in(word: &[u8]) -> Option<u32>
     }
 }
 
-/// The MAC address that a word writes as in `02:00:5e:10:00:01`, in digits of either case. Its first byte is
-/// the highest.
+/// The MAC address that a word writes as in `02:00:5e:10:00:01`, in digits of either case. Its
+/// first byte is the highest.
 pub fn mac_in(word: &[u8]) -> Option<u64>
     ensures { result ≡ spec.mac_in word.now }
 {

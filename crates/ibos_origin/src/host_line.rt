@@ -4,7 +4,8 @@ ghost use Rattle.std.specs.Option.{option_map, option_copied};
 ghost use Rattle.std.specs.List.{list_all};
 ghost use Rattle.ibos_text.specs.Words.{words_of};
 ghost use Rattle.ibos_origin.specs.HostLines as spec;
-ghost use Rattle.ibos_origin.specs.HostLines.{host_line_in, host_line_by, only_word, own_in, gateway_in, named_in};
+ghost use Rattle.ibos_origin.specs.HostLines.{host_line_in, host_line_by, only_word, own_in};
+ghost use Rattle.ibos_origin.specs.HostLines.{gateway_in, named_in};
 ghost use Rattle.ibos_origin.specs.HostLineViews.{host_line_of};
 
 use crate::addresses::{addr_in, mac_in};

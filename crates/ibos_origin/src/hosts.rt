@@ -110,7 +110,8 @@ impl Model for PartialTable {
 }
 
 impl PartialTable {
-    ghost use Rattle.ibos_origin.specs.Tables.{nothing_read, with_line, with_host_line, at_line, table_of};
+    ghost use Rattle.ibos_origin.specs.Tables.{nothing_read, with_line, with_host_line, at_line};
+    ghost use Rattle.ibos_origin.specs.Tables.{table_of};
     ghost use Rattle.ibos_origin.specs.HostLines.{Own, Gateway, Named};
     ghost use Rattle.ibos_origin.specs.Reads.{Refuses, Reads};
 
@@ -174,7 +175,8 @@ impl PartialTable {
     }
 
     fn add_host(&mut self, alloc: Global, name: &[u8], addr: u32) -> Result<(), HostsFault>
-        ensures ok { OnOk result (with_host_line self.old (Some (Named name.now addr)) ≡ Ok self.new) }
+        ensures ok { OnOk result (with_host_line self.old (Some (Named name.now addr))
+            ≡ Ok self.new) }
         ensures err { IfErr result (λ fault. Refuses fault
             (at_line self.old.lines (with_host_line self.old (Some (Named name.now addr))))) }
     {

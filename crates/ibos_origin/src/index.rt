@@ -7,8 +7,8 @@ use indexmap::IndexMap;
 use std::alloc::Global;
 use std::marker::Model;
 
-/// Hosts with their addresses, each name once, in the order in which they came. A name is found by its
-/// hash.
+/// Hosts with their addresses, each name once, in the order in which they came. A name is found by
+/// its hash.
 #[derive(Debug, Drop)]
 pub struct HostIndex {
     addrs: IndexMap<Vec<u8>, u32>,

@@ -65,8 +65,8 @@ impl Page {
         self.url.as_slice()
     }
 
-    /// The serialized origin (RFC 6454, section 6.2). A port is written only where the scheme has another
-    /// by default, so two pages have one origin exactly where these texts are equal.
+    /// The serialized origin (RFC 6454, section 6.2). A port is written only where the scheme has
+    /// another by default, so two pages have one origin exactly where these texts are equal.
     pub fn origin(&self) -> &[u8]
         ensures { result.now ≡ self.now.origin }
     {
@@ -83,8 +83,8 @@ impl Page {
         }
     }
 
-    /// The page that a text names, read as an absolute URL (URL Standard, section 4.4), or the first of these
-    /// rules that it breaks:
+    /// The page that a text names, read as an absolute URL (URL Standard, section 4.4), or the
+    /// first of these rules that it breaks:
     ///
     /// | Rule | asks of the text |
     /// |---|---|

@@ -1,6 +1,7 @@
 -- How the pages of live instances are kept: in a slab, each under a key that its tab alone has. No
 -- public clause cites this module.
-use Rattle.std.specs.Prelude.{◌≡◌, ℕ, ◌≤◌, Bool, List, length, map, count_by, cond, Option, Some, None, is_some, option_and_then}
+use Rattle.std.specs.Prelude.{◌≡◌, ℕ, ◌≤◌, Bool, List, length, map, count_by, cond, Option, Some}
+use Rattle.std.specs.Prelude.{None, is_some, option_and_then}
 use Rattle.std.specs.List.{slice_index_or}
 use Rattle.slab.specs.Slab.{Slab, get, ContainsKey, slab_len}
 use Rattle.ibos_origin.specs.Pages.{Page}
@@ -28,11 +29,12 @@ held key = cond (is_some key) 1 0
 abbrev pub has_key : Place → Bool
 has_key place = is_some place.key
 
--- each key finds a page, no two tabs have the same one, and each page is some tab's; so a tab with no
--- key has room for a page
+-- each key finds a page, no two tabs have the same one, and each page is some tab's; so a tab with
+-- no key has room for a page
 pub record IsKept (places : List Place) (pages : Slab Page) : Type 0 where
   pub count : length places ≡ 64
   pub there : (tab key : ℕ) → key_at places tab ≡ Some key → ContainsKey pages key
-  pub apart : (tab other key : ℕ) → key_at places tab ≡ Some key → key_at places other ≡ Some key → tab ≡ other
+  pub apart : (tab other key : ℕ) → key_at places tab ≡ Some key → key_at places other ≡ Some key
+      → tab ≡ other
   pub as_many : slab_len pages ≡ count_by has_key places
   pub room : 64 ≤ pages.capacity

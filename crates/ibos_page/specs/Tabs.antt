@@ -1,5 +1,7 @@
 -- Tabs: how many instances each has had, and what its live one shows.
-use Rattle.std.specs.Prelude.{◌≡◌, ◌≢◌, ℕ, ◌+◌, ◌-◌, ◌<◌, ◌≤◌, List, [], Bool, ◌==◌, ◌&&◌, nat_lt, length, Option, Some, None, option_map, option_and_then, is_some, Result, Ok, Err, bytes_eq, slice_set, if◌then◌else◌}
+use Rattle.std.specs.Prelude.{◌≡◌, ◌≢◌, ℕ, ◌+◌, ◌-◌, ◌<◌, ◌≤◌, List, [], Bool, ◌==◌, ◌&&◌, nat_lt}
+use Rattle.std.specs.Prelude.{length, Option, Some, None, option_map, option_and_then, is_some}
+use Rattle.std.specs.Prelude.{Result, Ok, Err, bytes_eq, slice_set, if◌then◌else◌}
 use Rattle.std.specs.List.{slice_index_or}
 use Rattle.ibos_kinds.specs.declared.names.Instance.{Instance}
 use Rattle.ibos_kinds.specs.declared.rule.Rule.{Rule}
@@ -99,4 +101,5 @@ pub record IsSeat (seat : Seat) : Type 0 where
 pub record IsTable (seats : List Seat) (active : Option ℕ) : Type 0 where
   pub count : length seats ≡ 64
   pub each : (tab : ℕ) → IsSeat (slice_index_or seats tab empty_seat)
-  pub shown : (tab : ℕ) → active ≡ Some tab → (tab < 64) × ((slice_index_or seats tab empty_seat).page ≢ None)
+  pub shown : (tab : ℕ) → active ≡ Some tab → (tab < 64)
+      × ((slice_index_or seats tab empty_seat).page ≢ None)

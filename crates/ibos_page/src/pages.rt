@@ -1,5 +1,7 @@
 // The pages of live instances, and the tabs that they are in.
-ghost use Rattle.std.specs.Prelude.{◌≡◌, ◌≢◌, ◌<◌, ℕ, ◌+◌, length, Some, None, IfOk, IfSome, IfNone, option_copied, bytes_eq, is_some, slice_set, slice_index_or};
+ghost use Rattle.std.specs.Prelude.{◌≡◌, ◌≢◌, ◌<◌, ℕ, ◌+◌, length, Some, None, IfOk, IfSome};
+ghost use Rattle.std.specs.Prelude.{IfNone, option_copied, bytes_eq, is_some, slice_set};
+ghost use Rattle.std.specs.Prelude.{slice_index_or};
 ghost use Rattle.slab.specs.Slab.{ContainsKey, HasRoomFor, Updates, get, slab_len};
 ghost use Rattle.ibos_page.specs.Tabs.{empty_seat, opened, moved, closed, origin_with};
 ghost use Rattle.ibos_page.specs.Places.{held};

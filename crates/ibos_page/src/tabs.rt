@@ -1,5 +1,7 @@
 // Tabs and their instances.
-ghost use Rattle.std.specs.Prelude.{◌≡◌, ◌<◌, ◌+◌, ◌↔◌, ℕ, length, Some, None, Ok, Err, IfOk, OnOk, OnErr, IsOk, IsTrue, IsNone, is_some, ok_or, IfSome, if◌then◌else◌};
+ghost use Rattle.std.specs.Prelude.{◌≡◌, ◌<◌, ◌+◌, ◌↔◌, ℕ, length, Some, None, Ok, Err, IfOk, OnOk};
+ghost use Rattle.std.specs.Prelude.{OnErr, IsOk, IsTrue, IsNone, is_some, ok_or, IfSome};
+ghost use Rattle.std.specs.Prelude.{if◌then◌else◌};
 ghost use Rattle.ibos_page.specs.Tabs.{origin_with};
 ghost use Rattle.ibos_page.specs.Tabs as spec;
 
@@ -19,8 +21,8 @@ pub enum Moved {
     New(Instance),
 }
 
-/// The 64 tabs, their instances, and which tab is active. A tab has one live instance at a time, the
-/// newest, and at most 32 in all. No call but `new` takes memory.
+/// The 64 tabs, their instances, and which tab is active. A tab has one live instance at a time,
+/// the newest, and at most 32 in all. No call but `new` takes memory.
 #[derive(Drop)]
 pub struct Tabs {
     pages: Pages,
@@ -39,7 +41,9 @@ impl Model for Tabs {
 
 impl Tabs {
     ghost use Rattle.ibos_kinds.specs.declared.names.Instance.{Instance};
-    ghost use Rattle.ibos_page.specs.Tabs.{empty_seat, seat_at, live_at, live_in, active_in, next_at, start_in, opened, moved, closed, with_seat, without, admission, admitted_by, go_in};
+    ghost use Rattle.ibos_page.specs.Tabs.{empty_seat, seat_at, live_at, live_in, active_in};
+    ghost use Rattle.ibos_page.specs.Tabs.{next_at, start_in, opened, moved, closed, with_seat};
+    ghost use Rattle.ibos_page.specs.Tabs.{without, admission, admitted_by, go_in};
 
     /// No tab has had an instance, and none is active. All the room is reserved here.
     pub fn new(alloc: Global) -> Result<Tabs, Memory>
@@ -53,8 +57,8 @@ impl Tabs {
         })
     }
 
-    /// The instance that would start in a tab, or why none would: U1 where one lives, U3 where there
-    /// have been 32.
+    /// The instance that would start in a tab, or why none would: U1 where one lives, U3 where
+    /// there have been 32.
     pub fn may_start(&self, tab: u8) -> Result<Instance, Rule>
         requires { tab < 64 }
         ensures { result ≡ start_in self.now tab }
@@ -102,8 +106,8 @@ impl Tabs {
         Ok(())
     }
 
-    /// Ends the tab's live instance, and answers it. U2 exactly where there is none. Closing the active
-    /// tab leaves none active.
+    /// Ends the tab's live instance, and answers it. U2 exactly where there is none. Closing the
+    /// active tab leaves none active.
     pub fn close(&mut self, tab: u8) -> Result<Instance, Rule>
         requires { tab < 64 }
         ensures answer { result ≡ ok_or (live_at self.old tab) Rule.U2 }
@@ -124,9 +128,9 @@ impl Tabs {
         Ok(who)
     }
 
-    /// A live instance goes to a page. Within its origin it stays and shows the page. To another origin
-    /// it ends, and the tab's next one starts there; U3 exactly where its ordinal is 31. The active tab
-    /// stays the same. A refused page is dropped.
+    /// A live instance goes to a page. Within its origin it stays and shows the page. To another
+    /// origin it ends, and the tab's next one starts there; U3 exactly where its ordinal is 31. The
+    /// active tab stays the same. A refused page is dropped.
     pub fn go(&mut self, who: Instance, page: Page) -> Result<Moved, Rule>
         requires { live_at self.old who.tab ≡ Some who }
         ensures answer { result ≡ go_in who (origin_with (seat_at self.old who.tab).page) page }

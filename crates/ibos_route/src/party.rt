@@ -7,8 +7,8 @@ ghost use Rattle.ibos_route.specs.Parties.{admission_of};
 use ibos_kinds::{Act, Item, Party, Rule, actor, addressee};
 use ibos_page::Tabs;
 
-/// Whether an act's actor may act: an instance only while it lives, with P1 where it never started and
-/// P2 where it has ended. All others always may.
+/// Whether an act's actor may act: an instance only while it lives, with P1 where it never started
+/// and P2 where it has ended. All others always may.
 pub fn admit(tabs: &Tabs, act: &Act) -> Result<(), Rule>
     ensures { result ≡ admitted_by (admission_of tabs.now act.now) }
 {

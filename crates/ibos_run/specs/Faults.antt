@@ -3,10 +3,12 @@ use Rattle.std.specs.Prelude.{ℕ, Option, Some, None}
 use Rattle.ibos_run.specs.declared.fault.Fault.{Fault}
 use Rattle.ibos_run.specs.declared.fault.Fault.TheVariants.{Read, Write, Memory}
 use Rattle.ibos_run.specs.declared.fault.Status.{Status}
-use Rattle.ibos_run.specs.declared.fault.Status.TheVariants.{Done, Usage, Refused, ReadFault, WriteFault, Memory as NoMemory}
+use Rattle.ibos_run.specs.declared.fault.Status.TheVariants.{Done, Usage, Refused, ReadFault}
+use Rattle.ibos_run.specs.declared.fault.Status.TheVariants.{WriteFault, Memory as NoMemory}
 use Rattle.ibos_model.specs.Inputs.{Input, NoForm, NoHosts, Session, Refusal}
 
--- a fault of reading comes only where P, a fault of writing only where Q; out of memory a run may be at any time
+-- a fault of reading comes only where P, a fault of writing only where Q; out of memory a run may
+-- be at any time
 abbrev pub IsCaused : Fault → Type 0 → Type 0 → Type 0
 IsCaused Read P Q = P
 IsCaused Write P Q = Q

@@ -22,4 +22,5 @@ IsOfScript other = Unit {0}
 -- what is left of a script begins with this act, which its ranges allow, or this is its end
 abbrev pub Leads : Reading → Next → Reading → Type 0
 Leads old (NextAct act) new = (old ≡ onto_acts act new) × Fits act
-Leads old (NextEnd end) new = (old ≡ record { acts = []; refused = refusal_of end }) × IsOfScript end
+Leads old (NextEnd end) new = (old ≡ record { acts = []; refused = refusal_of end })
+    × IsOfScript end

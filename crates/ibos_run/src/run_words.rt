@@ -1,10 +1,12 @@
 // The top call.
-ghost use Rattle.std.specs.Prelude.{◌≡◌, ◌⊎◌, ◌≤◌, ◌<◌, ◌+◌, ◌-◌, ◌^◌, [], IsSome, IsSomeAnd, IfSome, IfOk, IfErr, OnErr, OnOk, List, ℕ};
+ghost use Rattle.std.specs.Prelude.{◌≡◌, ◌⊎◌, ◌≤◌, ◌<◌, ◌+◌, ◌-◌, ◌^◌, [], IsSome, IsSomeAnd};
+ghost use Rattle.std.specs.Prelude.{IfSome, IfOk, IfErr, OnErr, OnOk, List, ℕ};
 ghost use Rattle.std.specs.Option.{option_map};
 ghost use Rattle.ibos_kinds.specs.Outside.{Rose, taken_after};
 ghost use Rattle.ibos_origin.specs.Reads.{Reads};
 ghost use Rattle.ibos_origin.specs.Tables.{hosts_in};
-ghost use Rattle.ibos_model.specs.Inputs.{IsIsolatedInput, form_in, host_refusal, input, input_with, refusal_line, session_in, table_in, wanted};
+ghost use Rattle.ibos_model.specs.Inputs.{IsIsolatedInput, form_in, host_refusal, input};
+ghost use Rattle.ibos_model.specs.Inputs.{input_with, refusal_line, session_in, table_in, wanted};
 ghost use Rattle.ibos_run.specs.Faults.{IsCaused, IsFaultless, OnWhole, status_for};
 ghost use Rattle.ibos_run.specs.Forms.{form_of};
 ghost use Rattle.ibos_run.specs.Took.{Took, TookFront};
@@ -23,11 +25,13 @@ use std::alloc::Global;
 // The most that a host table may have, in bytes.
 const MAX_HOSTS_LEN: usize = 4_194_304;
 
-/// Runs the words of a command line: `run HOSTS SCRIPT`, with the names of a host table and a script.
+/// Runs the words of a command line: `run HOSTS SCRIPT`, with the names of a host table and a
+/// script.
 ///
-/// The host table is read first, and the script where the table has no fault. Each line of the script that
-/// is an act is one step of a kernel, and the text of its outcome goes to the sink, numbered from 1. The
-/// last line is `end K` with the number of acts, or `refused FILE K N NAME` with the first fault: FILE is
+/// The host table is read first, and the script where the table has no fault. Each line of the
+/// script that is an act is one step of a kernel, and the text of its outcome goes to the sink,
+/// numbered from 1. The last line is `end K` with the number of acts, or `refused FILE K N NAME`
+/// with the first fault: FILE is
 /// `hosts` or `script`, K the line, N and NAME the fault's number and name. Any other words are answered
 /// with the usage line, for which no memory is taken.
 pub fn run<C: Cabinet, K: Sink>(
@@ -41,8 +45,8 @@ pub fn run<C: Cabinet, K: Sink>(
         (C.faults cabinet.old form.hosts < 2 ^ 64 - 1)
         × (C.faults cabinet.old form.script < 2 ^ 64 - 1)) }
 
-    // Where no failed read or write ended the run, and it was not out of memory, its status and its text
-    // are those of the inputs.
+    // Where no failed read or write ended the run, and it was not out of memory, its status and its
+    // text are those of the inputs.
     ensures status { OnWhole result (
         IfSome (input words.now (C.holds cabinet.old)) (λ i. result ≡ status_for i)) }
     ensures text { OnWhole result (

@@ -1,8 +1,10 @@
 // A script, act by act.
-ghost use Rattle.std.specs.Prelude.{◌≡◌, ◌≤◌, ◌<◌, ◌+◌, ◌^◌, ◌&&◌, List, [], ℕ, length, IfOk, MatchOption, if◌then◌else◌};
+ghost use Rattle.std.specs.Prelude.{◌≡◌, ◌≤◌, ◌<◌, ◌+◌, ◌^◌, ◌&&◌, List, [], ℕ, length, IfOk};
+ghost use Rattle.std.specs.Prelude.{MatchOption, if◌then◌else◌};
 ghost use Rattle.ibos_script.specs.Lines.{line_in};
 ghost use Rattle.ibos_text.specs.Lines.{lines_of};
-ghost use Rattle.ibos_model.specs.Inputs.{Reading, is_last, reading_by, reading_from, reading_of, refused_by, too_long};
+ghost use Rattle.ibos_model.specs.Inputs.{Reading, is_last, reading_by, reading_from, reading_of};
+ghost use Rattle.ibos_model.specs.Inputs.{refused_by, too_long};
 
 use ibos_kinds::{Act, Memory};
 use ibos_script::{Line, LineFault, read_line};
@@ -81,15 +83,16 @@ impl<'a> Script<'a> {
 
 ghost use Rattle.ibos_run.specs.Script.{Leads};
 
-// Whether a line of a text that passes the limit, or doesn't, holds the byte after it: that is the last.
+// Whether a line of a text that passes the limit, or doesn't, holds the byte after it: that is the
+// last.
 fn is_past(passes: bool, after: &[u8]) -> bool
     ensures { result ≡ (passes && is_last (lines_of after.now)) }
 {
     passes && after.is_empty()
 }
 
-// What a line of that number asks for, if anything, whatever the lines behind it give. `passes` is whether
-// it holds the byte after the limit.
+// What a line of that number asks for, if anything, whatever the lines behind it give. `passes` is
+// whether it holds the byte after the limit.
 fn find_next(alloc: Global, line: &[u8], number: u32, passes: bool) -> Result<Option<Next>, Memory>
     ensures { IfOk result (λ found. (behind : List (List ℕ) → Reading) →
         let read = (if passes then refused_by (too_long number)

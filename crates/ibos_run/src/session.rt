@@ -1,5 +1,6 @@
 // A session: the acts of a script, and the text that they bring.
-ghost use Rattle.std.specs.Prelude.{◌≡◌, ◌≤◌, ◌<◌, ◌+◌, ◌^◌, [], ◌∷◌, ◌++◌, true, length, IfOk, OnOk, OnErr, IfErr, string_bytes};
+ghost use Rattle.std.specs.Prelude.{◌≡◌, ◌≤◌, ◌<◌, ◌+◌, ◌^◌, [], ◌∷◌, ◌++◌, true, length, IfOk};
+ghost use Rattle.std.specs.Prelude.{OnOk, OnErr, IfErr, string_bytes};
 ghost use Rattle.ibos_kinds.specs.Limits.{Fits};
 ghost use Rattle.ibos_kinds.specs.Outside.{Rose};
 ghost use Rattle.ibos_script.specs.Printed.{outcome_text};

@@ -80,8 +80,8 @@ const NEVER: u32 = 1_000_000;
 #[test]
 fn a_failed_call_ends_the_run(rt: HostRuntime) -> Result<(), Fail> {
     let alloc = rt.alloc();
-    // By whole files the table is read by two calls, and so is the script. A text of five bytes a write
-    // has a front that ends within a line.
+    // By whole files the table is read by two calls, and so is the script. A text of five bytes a
+    // write has a front that ends within a line.
     for (read, read_most, write, write_most, status, text) in [
         (NEVER, 1u32, NEVER, 1u32, Status::Done, TEXT),
         (0, 9999, NEVER, 9999, Status::ReadFault, b"".as_slice()),

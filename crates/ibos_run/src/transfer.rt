@@ -1,5 +1,6 @@
 // Whole files in, whole texts out.
-ghost use Rattle.std.specs.Prelude.{◌≡◌, ◌+◌, ◌<◌, ◌≤◌, ◌^◌, List, ℕ, length, take, [], IfOk, IfErr, IfSome, OnErr, OnOk};
+ghost use Rattle.std.specs.Prelude.{◌≡◌, ◌+◌, ◌<◌, ◌≤◌, ◌^◌, List, ℕ, length, take, [], IfOk};
+ghost use Rattle.std.specs.Prelude.{IfErr, IfSome, OnErr, OnOk};
 ghost use Rattle.ibos_kinds.specs.Outside.{Rose, HasCause};
 ghost use Rattle.ibos_run.specs.Faults.{IsCaused};
 ghost use Rattle.ibos_run.specs.Took.{Took, TookFront};

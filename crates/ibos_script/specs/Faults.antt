@@ -1,7 +1,8 @@
 -- What a line is answered, and the number and name under which its fault is printed.
 use Rattle.std.specs.Prelude.{◌≡◌, ℕ, List, [], Result, Ok, Err, codes}
 use Rattle.ibos_script.specs.declared.fault.LineFault.{LineFault}
-use Rattle.ibos_script.specs.declared.fault.LineFault.TheVariants.{Long, Byte, Word, Count, Number, Hex, Memory}
+use Rattle.ibos_script.specs.declared.fault.LineFault.TheVariants.{Long, Byte, Word, Count, Number}
+use Rattle.ibos_script.specs.declared.fault.LineFault.TheVariants.{Hex, Memory}
 
 -- The answer is the one that is wanted, unless memory was wanting.
 abbrev pub GivesFault : {T : Type 0} → LineFault → Result T LineFault → Type 0

@@ -1,5 +1,7 @@
 -- The fields of a line, each read from its word: None where the word is malformed or out of range.
-use Rattle.std.specs.Prelude.{ℕ, ◌+◌, ◌*◌, ◌-◌, List, [], ◌∷◌, Bool, ◌&&◌, nat_lt, nat_le, length, take, drop, fold, codes, Option, Some, None, Result, Ok, Err, if◌then◌else◌}
+use Rattle.std.specs.Prelude.{ℕ, ◌+◌, ◌*◌, ◌-◌, List, [], ◌∷◌, Bool, ◌&&◌, nat_lt, nat_le, length}
+use Rattle.std.specs.Prelude.{take, drop, fold, codes, Option, Some, None, Result, Ok, Err}
+use Rattle.std.specs.Prelude.{if◌then◌else◌}
 use Rattle.std.specs.List.{list_all}
 use Rattle.hex.specs.Hex.{decode_of, decode_sized}
 use Rattle.hex.specs.declared.error.FromHexError.{FromHexError}
@@ -19,7 +21,8 @@ value_of digits = fold (λ n b. 10 * n + (b - 48)) 0 digits
 -- a decimal number of 1 to 10 digits, below the bound
 unfoldable pub number_in : ℕ → List ℕ → Option ℕ
 number_in bound word =
-    if nat_lt 0 (length word) && nat_le (length word) 10 && list_all is_digit word && nat_lt (value_of word) bound
+    if nat_lt 0 (length word) && nat_le (length word) 10 && list_all is_digit word
+    && nat_lt (value_of word) bound
     then Some (value_of word)
     else None
 

@@ -7,7 +7,8 @@ use Rattle.ibos_kinds.specs.declared.names.Instance.{Instance}
 use Rattle.ibos_kinds.specs.declared.outcome.Head.{Head}
 use Rattle.ibos_kinds.specs.declared.outcome.Head.TheVariants.{Ok, Denied}
 use Rattle.ibos_kinds.specs.declared.outcome.Item.{Item}
-use Rattle.ibos_kinds.specs.declared.outcome.Item.TheVariants.{Opened, Moved, Ended, KeyTo, ClickTo, Cookies, RowIs}
+use Rattle.ibos_kinds.specs.declared.outcome.Item.TheVariants.{Opened, Moved, Ended, KeyTo, ClickTo}
+use Rattle.ibos_kinds.specs.declared.outcome.Item.TheVariants.{Cookies, RowIs}
 use Rattle.ibos_kinds.specs.declared.outcome.Outcome.{Outcome}
 use Rattle.ibos_kinds.specs.declared.party.Party.{Party}
 use Rattle.ibos_kinds.specs.declared.party.Party.TheVariants.{Page, Driver, Store, User, Wire, Log}

@@ -3,7 +3,8 @@ use Rattle.std.specs.Prelude.{◌≡◌, ℕ, ◌^◌, ◌<◌, List, [], ◌∷
 use Rattle.std.specs.List.{list_all}
 use Rattle.hex.specs.Hex.{IsBytes, encode_lower}
 use Rattle.ibos_kinds.specs.declared.act.Act.{Act}
-use Rattle.ibos_kinds.specs.declared.act.Act.TheVariants.{Start, Switch, Close, Press, Click, Look, Go, Draw, CookieSet, CookieGet}
+use Rattle.ibos_kinds.specs.declared.act.Act.TheVariants.{Start, Switch, Close, Press, Click, Look}
+use Rattle.ibos_kinds.specs.declared.act.Act.TheVariants.{Go, Draw, CookieSet, CookieGet}
 use Rattle.ibos_kinds.specs.declared.names.Key.{Key}
 use Rattle.ibos_kinds.specs.declared.names.Key.TheVariants.{Byte, Enter, Back}
 use Rattle.ibos_kinds.specs.declared.names.Side.{Side}
@@ -44,7 +45,8 @@ spelled (Draw who row col height width pixels) =
     ∷ decimal height ∷ decimal width ∷ []) (hex_text pixels)
 spelled (CookieSet side who text) =
     spaced (side_text side ∷ instance_text who ∷ codes "cookie" ∷ codes "set" ∷ []) text
-spelled (CookieGet side who) = spaced (side_text side ∷ instance_text who ∷ codes "cookie" ∷ []) (codes "get")
+spelled (CookieGet side who) = spaced (side_text side ∷ instance_text who ∷ codes "cookie"
+    ∷ []) (codes "get")
 
 -- the rest of a line: printable, and no space first
 abbrev pub IsRest : List ℕ → Type 0

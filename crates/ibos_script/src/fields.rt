@@ -1,5 +1,6 @@
 // The fields of a line, each read from its word.
-ghost use Rattle.std.specs.Prelude.{◌≡◌, ◌≤◌, ◌<◌, ◌^◌, None, Some, true, false, length, MatchOption, MatchResult, IfOk, IfSome};
+ghost use Rattle.std.specs.Prelude.{◌≡◌, ◌≤◌, ◌<◌, ◌^◌, None, Some, true, false, length};
+ghost use Rattle.std.specs.Prelude.{MatchOption, MatchResult, IfOk, IfSome};
 ghost use Rattle.std.specs.List.{list_all};
 ghost use Rattle.ibos_kinds.specs.Limits.{IsKey, IsNamed};
 ghost use Rattle.ibos_script.specs.Fields.{number_in, instance_in, key_in, hex_in, is_digit};
@@ -12,7 +13,8 @@ use std::alloc::Global;
 
 const MAX_DIGITS: usize = 10;
 
-/// A decimal number below the bound. Leading zeros count among its digits, of which there are at most ten.
+/// A decimal number below the bound. Leading zeros count among its digits, of which there are at
+/// most ten.
 #[tactic(auto, unfolding(crate::specs::Fields::number_in))]
 pub fn read_number(bound: u64, word: &[u8]) -> Option<u64>
     ensures number { result ≡ number_in bound word.now }

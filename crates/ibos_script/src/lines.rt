@@ -1,11 +1,14 @@
 // The lines of a script.
 ghost use Rattle.std.specs.Prelude.{◌≡◌, true, false, IfOk, IfSome, MatchResult};
 ghost use Rattle.std.specs.List.{list_all};
-ghost use Rattle.ibos_kinds.specs.declared.act.Act.TheVariants.{Start, Switch, Close, Press, Click, Look, Go, Draw, CookieSet, CookieGet};
+ghost use Rattle.ibos_kinds.specs.declared.act.Act.TheVariants.{Start, Switch, Close, Press, Click};
+ghost use Rattle.ibos_kinds.specs.declared.act.Act.TheVariants.{Look, Go, Draw, CookieSet};
+ghost use Rattle.ibos_kinds.specs.declared.act.Act.TheVariants.{CookieGet};
 ghost use Rattle.ibos_text.specs.Words.{after_spaces, first_word, after_word, has_word};
 ghost use Rattle.ibos_script.specs.Faults.{Gives};
 ghost use Rattle.ibos_script.specs.Forms.{nothing, rest, tab, number, key, hex, form, form_of};
-ghost use Rattle.ibos_script.specs.Lines.{LineFits, line_in, act_in, user_in, page_in, net_in, cookie_in};
+ghost use Rattle.ibos_script.specs.Lines.{LineFits, line_in, act_in, user_in, page_in, net_in};
+ghost use Rattle.ibos_script.specs.Lines.{cookie_in};
 ghost use Rattle.ibos_script.specs.Lines as spec;
 
 use crate::fault::LineFault;
@@ -39,9 +42,9 @@ pub enum Line {
 /// | `page T.N cookie set TEXT`, `net T.N cookie set TEXT` | `CookieSet` |
 /// | `page T.N cookie get`, `net T.N cookie get` | `CookieGet` |
 ///
-/// T (below 64), N (below 32), ROW, COL, HEIGHT and WIDTH (below 2^32) are decimal, in at most ten digits. K
-/// is `enter`, `back` or a printable byte in hexadecimal, HEX any number of bytes in hexadecimal, `-` for
-/// none. URL and TEXT take what is left of the line.
+/// T (below 64), N (below 32), ROW, COL, HEIGHT and WIDTH (below 2^32) are decimal, in at most ten
+/// digits. K is `enter`, `back` or a printable byte in hexadecimal, HEX any number of bytes in
+/// hexadecimal, `-` for none. URL and TEXT take what is left of the line.
 #[tactic(auto, unfolding(crate::specs::Lines::line_in))]
 pub fn read_line(alloc: Global, line: &[u8]) -> Result<Option<Line>, LineFault>
     ensures line { Gives result (line_in line.now) }

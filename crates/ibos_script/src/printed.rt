@@ -2,7 +2,8 @@
 ghost use Rattle.std.specs.Prelude.{◌≡◌, ◌++◌, [], ◌∷◌, OnOk, OnErr, codes, decimal};
 ghost use Rattle.hex.specs.Hex.{encode_lower};
 ghost use Rattle.ibos_script.specs.Printed as spec;
-ghost use Rattle.ibos_script.specs.Printed.{Appends, IsCutShort, outcome_text, line_text, head_text, item_text, items_text, pieces_text};
+ghost use Rattle.ibos_script.specs.Printed.{Appends, IsCutShort, outcome_text, line_text};
+ghost use Rattle.ibos_script.specs.Printed.{head_text, item_text, items_text, pieces_text};
 
 use ibos_kinds::{Bytes, Head, Instance, Item, Memory, Outcome};
 use itoa::Buffer;

@@ -5,9 +5,9 @@ ghost use Rattle.ibos_kinds.specs.Frames.{pseudo_header};
 
 use ibos_kinds::sum_words;
 
-/// The ones' complement sum over the pseudo-header (RFC 9293, 3.1, and RFC 768) of addresses, protocol
-/// number and length in bytes, which takes part with its lowest 16 bits. The sum over a segment goes on
-/// from it.
+/// The ones' complement sum over the pseudo-header (RFC 9293, 3.1, and RFC 768) of addresses,
+/// protocol number and length in bytes, which takes part with its lowest 16 bits. The sum over a
+/// segment goes on from it.
 pub fn pseudo_sum(src: u32, dst: u32, protocol: u8, len: usize) -> u16
     ensures { result ≡ sum_words 0 (pseudo_header src dst protocol len) }
 {

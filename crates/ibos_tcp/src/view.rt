@@ -1,8 +1,11 @@
 // A segment's header, and what it carries.
-ghost use Rattle.std.specs.Prelude.{◌≡◌, ◌+◌, ◌*◌, ◌≤◌, ◌++◌, None, Some, length, drop, IfOk, IfErr};
+ghost use Rattle.std.specs.Prelude.{◌≡◌, ◌+◌, ◌*◌, ◌≤◌, ◌++◌, None, Some, length, drop, IfOk};
+ghost use Rattle.std.specs.Prelude.{IfErr};
 ghost use Rattle.ibos_tcp.specs.Segments.{HasLengths};
 ghost use Rattle.ibos_kinds.specs.Sums.{sum16};
-ghost use Rattle.ibos_kinds.specs.Frames.{number, proto_of, proto_in, seg_src_port, seg_dst_port, tcp_words, udp_len, seg_payload, pseudo_header, is_equal_out, is_seg_form, is_seg_sum, seg_broken};
+ghost use Rattle.ibos_kinds.specs.Frames.{number, proto_of, proto_in, seg_src_port, seg_dst_port};
+ghost use Rattle.ibos_kinds.specs.Frames.{tcp_words, udp_len, seg_payload, pseudo_header};
+ghost use Rattle.ibos_kinds.specs.Frames.{is_equal_out, is_seg_form, is_seg_sum, seg_broken};
 
 use crate::pseudo::pseudo_sum;
 use byteorder::{BigEndian, ByteOrder};
@@ -37,9 +40,9 @@ impl<'a> Model for SegView<'a> {
 
 impl<'a> SegView<'a> {
     /// Views the payload of an IPv4 datagram of that protocol number between those addresses. It is
-    /// refused with F9 where the protocol is neither TCP nor UDP, with F10 where its lengths don't fit its
-    /// header and the bytes, and with F11 where its checksum is wrong; a UDP checksum of 0 is none. What
-    /// goes out is refused with F10 where a UDP length isn't that of the bytes, too.
+    /// refused with F9 where the protocol is neither TCP nor UDP, with F10 where its lengths don't
+    /// fit its header and the bytes, and with F11 where its checksum is wrong; a UDP checksum of 0
+    /// is none. What goes out is refused with F10 where a UDP length isn't that of the bytes, too.
     #[tactic(auto, unfolding(ibos_kinds::specs::Frames::seg_broken))]
     pub fn new(
         protocol: u8,
@@ -86,7 +89,8 @@ impl<'a> SegView<'a> {
         word_at(self.bytes, 2)
     }
 
-    /// What the segment carries: over TCP all that follows the header, over UDP what the length covers.
+    /// What the segment carries: over TCP all that follows the header, over UDP what the length
+    /// covers.
     pub fn payload(&self) -> &'a [u8]
         ensures { result.now ≡ seg_payload self.now.proto self.now.bytes }
     {
@@ -140,7 +144,8 @@ fn is_summed(proto: Proto, src: u32, dst: u32, bytes: &[u8]) -> bool
     }
 }
 
-// The checksum over a segment behind its pseudo-header. It is 0 where the segment holds the right one.
+// The checksum over a segment behind its pseudo-header. It is 0 where the segment holds the right
+// one.
 #[tactic(auto, unfolding(ibos_kinds::specs::Sums::sum16))]
 fn checksum(src: u32, dst: u32, protocol: u8, segment: &[u8]) -> u16
     ensures { result ≡ sum16 (pseudo_header src dst protocol (length segment.now) ++ segment.now) }

@@ -1,5 +1,6 @@
 -- The lines of a text.
-use Rattle.std.specs.Prelude.{ℕ, ◌-◌, List, [], ◌∷◌, ◌==◌, length, take, map, slice_index, if◌then◌else◌}
+use Rattle.std.specs.Prelude.{ℕ, ◌-◌, List, [], ◌∷◌, ◌==◌, length, take, map, slice_index}
+use Rattle.std.specs.Prelude.{if◌then◌else◌}
 
 -- a byte before the first of the pieces
 abbrev pub onto_first : ℕ → List (List ℕ) → List (List ℕ)

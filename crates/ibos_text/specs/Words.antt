@@ -1,5 +1,6 @@
 -- The words of a line: the longest runs of bytes other than the space.
-use Rattle.std.specs.Prelude.{ℕ, List, [], ◌∷◌, Bool, not, ◌==◌, nat_lt, length, take, drop, filter, bytes_eq, if◌then◌else◌}
+use Rattle.std.specs.Prelude.{ℕ, List, [], ◌∷◌, Bool, not, ◌==◌, nat_lt, length, take, drop, filter}
+use Rattle.std.specs.Prelude.{bytes_eq, if◌then◌else◌}
 use Rattle.std.specs.List.{list_any, slice_split}
 use Rattle.ibos_text.specs.Parts.{len_before}
 

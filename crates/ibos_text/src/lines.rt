@@ -5,8 +5,8 @@ ghost use Rattle.ibos_text.specs.Lines.{lines_of};
 
 use memchr::memchr;
 
-/// The first line of a text, and what follows the line's end: 0x0A, 0x0D 0x0A, or that of the text, before
-/// which one 0x0D counts too. None exactly where the text is empty.
+/// The first line of a text, and what follows the line's end: 0x0A, 0x0D 0x0A, or that of the text,
+/// before which one 0x0D counts too. None exactly where the text is empty.
 pub fn next_line(text: &[u8]) -> Option<(&[u8], &[u8])>
     ensures first { MatchOption result (text.now ≡ [])
         (λ found. lines_of text.now ≡ found.0.now ∷ lines_of found.1.now) }
