@@ -48,10 +48,6 @@ took_more a b rest whole more took = record {
   is = sym (append_assoc took.front rest more) ∙ ap (λ xs. xs ++ more) took.is;
 }
 
--- all was taken
-pub took_all : (a b : Option (List ℕ)) (whole : List ℕ) → Took a b [] whole → b ≡ taken_after a whole
-took_all a b whole took = took.taken ∙ ap (taken_after a) (sym (append-nil took.front) ∙ took.is)
-
 rest_is : (a b : Option (List ℕ)) (rest same whole : List ℕ) → Took a b rest whole → rest ≡ same → Took a b same whole
 rest_is a b rest same whole took is = subst (λ r. Took a b r whole) is took
 
