@@ -6,7 +6,7 @@ use Rattle.std.proofs.lemmas.List.{get_or-set_same, get_or-set_other}
 use Rattle.ibos_nic.specs.declared.reg.Reg.{Reg}
 use Rattle.ibos_nic.specs.declared.reg.Reg.TheVariants.{Ctrl, Status, Icr, Ims, Imc, Rctl, Tctl, Rdbal, Rdbah, Rdlen, Rdh, Rdt, Tdbal, Tdbah, Tdlen, Tdh, Tdt, Mpc, Ral0, Rah0}
 use Rattle.ibos_nic.specs.Registers.{Registers, reset, same_reg, with_reg}
-use Rattle.ibos_nic.specs.declared.limits.TheConstants.{MOST_FRAME}
+use Rattle.ibos_nic.specs.Bits.{max_frame}
 use Rattle.ibos_nic.specs.Device.{is_for_us}
 use Rattle.std.proofs.lemmas.Slice.Eq.{bytes_eq-Decides}
 use Rattle.std.specs.Prelude.{IsTrue, bytes_eq}
@@ -89,6 +89,6 @@ zero_test values b size test =
     (forth, back)
 
 -- a frame that is for us is short enough
-pub short_for_us : (regs : Registers) (frame : List ℕ) → IsTrue (is_for_us regs frame) → length frame ≤ MOST_FRAME
+pub short_for_us : (regs : Registers) (frame : List ℕ) → IsTrue (is_for_us regs frame) → length frame ≤ max_frame
 unfolding is_for_us
 short_for_us regs frame ours = grind (arith, nat_tests)

@@ -1,10 +1,8 @@
 //! What a device reads and writes in the memory, at the address of a descriptor.
 ghost use Rattle.std.specs.Prelude.{◌≡◌, ◌≤◌, ◌∷◌, length};
-ghost use Rattle.ibos_pool.specs.declared.limits.TheConstants.{DESCRIPTOR_BYTES};
-ghost use Rattle.ibos_nic.specs.declared.limits.TheConstants.{MOST_FRAME};
 ghost use Rattle.ibos_nic.specs.declared.log.LogEntry.TheVariants.{Out};
-ghost use Rattle.ibos_nic.specs.Device.{IsLentFrom, IsReceived, IsTransmitted, MayReceive};
-ghost use Rattle.ibos_nic.specs.Device.{MayTransmit, frame_at, rx_at, tx_at};
+ghost use Rattle.ibos_nic.specs.Device.{IsLentFrom, IsReceived, IsTransmitted, MayReceive, MayTransmit, frame_at, rx_at, tx_at};
+ghost use Rattle.ibos_nic.specs.Bits.{max_frame};
 
 use crate::history::History;
 use ibos_nic::{DONE, END_OF_PACKET, RxDesc, TxDesc};
@@ -40,7 +38,7 @@ fn read_tx(mem: &Mem, at: u32) -> TxDesc
 /// Writes a frame into the buffer that the receive descriptor names, and says so in the descriptor.
 pub(crate) fn put_frame(mem: &mut Mem, at: u32, written: &[u8])
     requires descriptor { MayReceive mem.old at }
-    requires size { length written.now ≤ MOST_FRAME }
+    requires size { length written.now ≤ max_frame }
     ensures { IsReceived mem.old mem.new at written.now }
 {
     ibos_pool::parts_are_apart();
