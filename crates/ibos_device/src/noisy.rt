@@ -2,6 +2,7 @@
 ghost use Rattle.std.specs.Prelude.{◌≡◌, ◌≤◌, List, ℕ, [], ◌∷◌, length, refl, IfOk, IsTrue};
 ghost use Rattle.ibos_nic.specs.declared.reg.Reg.{Reg};
 ghost use Rattle.ibos_nic.specs.declared.log.LogEntry.TheVariants.{In, Out};
+ghost use Rattle.ibos_nic.specs.Bits.{max_frame};
 ghost use Rattle.ibos_nic.specs.Registers.{after_read, after_write, can_receive, can_transmit, receive_head, reset, transmit_head};
 ghost use Rattle.ibos_nic.specs.Device.{IsReceived, IsTransmitted, MayMoveTail, MayReceive, MayTransmit, OnHeard, OnSent, OnUnheard, OnUnsent, after_arrive, after_transmit, frame_at, verdict_of};
 ghost use Rattle.ibos_device.specs.Cards.{regs_of};
