@@ -1,0 +1,86 @@
+-- A frame that is heard is the last of those received, and the device leaves every other buffer.
+use Rattle.std.proofs.Common.{◌≡◌, ◌≢◌, ℕ, ◌+◌, ◌-◌, ◌<◌, ◌≤◌, ◌⊎◌, List, [], ◌∷◌, ◌++◌, length, sym, ◌∙◌, ap, inl, inr, ⊎_elim, subst, refl, arith}
+use Rattle.std.specs.Prelude.{IsTrue, slice_index}
+use Rattle.ibos_pool.specs.declared.name.Ring.{Ring}
+use Rattle.ibos_pool.specs.declared.name.Ring.TheVariants.{Receive, Transmit}
+use Rattle.ibos_pool.specs.declared.place.Place.{Place}
+use Rattle.ibos_pool.specs.Memory.{Memory, bytes_at}
+use Rattle.ibos_pool.specs.Places.{IsApart, IsPlaceIn, address_of, ring_base}
+use Rattle.ibos_pool.specs.Sizes.{buffer_bytes, ring_room}
+use Rattle.ibos_nic.specs.declared.descriptor.RxDesc.{RxDesc}
+use Rattle.ibos_nic.specs.Descriptors.{FitsRx, rx_bytes, rx_of}
+use Rattle.ibos_nic.specs.Device.{IsReceived}
+use Rattle.ibos_nic.specs.Registers.{is_enabled, ring_size}
+use Rattle.ibos_nic.proofs.DeviceLemmas.{others-stay}
+use Rattle.ibos_nic.proofs.SlotLemmas.{slots-differ}
+use Rattle.ibos_mediate.specs.Frames.{Arrival, arrival_at, arrivals, handle_for, received_bytes, received_frames, unsent_frames}
+use Rattle.ibos_mediate.specs.Mediated.{Mediated, ring_of}
+use Rattle.ibos_mediate.specs.Relation.{IsInMemory, IsOpen, completed, descriptor_at, descriptor_of, place_for}
+use Rattle.ibos_mediate.proofs.CompleteChange.{completed-then, its_open}
+use Rattle.ibos_mediate.proofs.DeviceChange.{received-became, received-completes}
+use Rattle.ibos_mediate.proofs.FrameLemmas.{IsLeft, received-at, unsent-left}
+use Rattle.ibos_mediate.proofs.QueueLemmas.{queue-grows}
+
+module _ (rx_back : (d : RxDesc) → FitsRx d → rx_of (rx_bytes d) ≡ d) (behind : (areas : ℕ) (ring : Ring) (p : Place) → IsPlaceIn areas p → ring_base ring + ring_room ≤ address_of p)
+    (buffers : (areas : ℕ) (p q : Place) → IsPlaceIn areas p → IsPlaceIn areas q → (p ≡ q) ⊎ IsApart (address_of p) buffer_bytes (address_of q) buffer_bytes)
+    (m : Mediated) (mem mem' : Memory) (written : List ℕ) (in_memory : IsInMemory m mem) (on : IsTrue (is_enabled m.receive.values.control)) (more : completed Receive mem m.receive < m.receive.values.rung)
+    (heard : IsReceived mem mem' (descriptor_at Receive (completed Receive mem m.receive)) written) where
+  head-open : IsOpen m.receive (completed Receive mem m.receive)
+  head-open = its_open Receive m mem mem' in_memory more (received-completes m mem mem' in_memory rx_back behind written more heard)
+
+  -- a buffer that is not the head's
+  pub other-bytes : (p : Place) → IsPlaceIn (length mem) p → p ≢ place_for m.receive (completed Receive mem m.receive) → (n : ℕ) → n ≤ buffer_bytes → bytes_at mem' (address_of p) n ≡ bytes_at mem (address_of p) n
+  other-bytes p place differ n small =
+      let ring = in_memory.ring Receive in
+      let is = ring.each (completed Receive mem m.receive) head-open in
+      let low = behind (length mem) Receive p place in
+      others-stay buffers mem mem' (descriptor_at Receive (completed Receive mem m.receive)) (length mem) written (place_for m.receive (completed Receive mem m.receive)) p is.descriptor.named is.lent.place place differ heard n small (inr (omega arith))
+
+  open-bytes : (one : Ring) (k : ℕ) → IsOpen (ring_of m one) k → ((one ≡ Receive) × (k ≡ completed Receive mem m.receive) → ⊥) → (n : ℕ) → n ≤ buffer_bytes
+      → bytes_at mem' (address_of (place_for (ring_of m one) k)) n ≡ bytes_at mem (address_of (place_for (ring_of m one) k)) n
+  open-bytes one k is_open differ =
+      let ring = in_memory.ring one in
+      other-bytes (place_for (ring_of m one) k) (ring.each k is_open).lent.place (λ e. differ (in_memory.apart one Receive k (completed Receive mem m.receive) is_open head-open e))
+
+  before : (k : ℕ) → m.receive.values.taken ≤ k → k < completed Receive mem m.receive → received_bytes mem' m.receive k ≡ received_bytes mem m.receive k
+  before k from below =
+      let change = received-completes m mem mem' in_memory rx_back behind written more heard in
+      let ring = in_memory.ring Receive in
+      let room = ring.balanced.room in
+      let order = ring.balanced.posted in
+      let k_open : IsOpen m.receive k = (from, omega arith) in
+      received-at m mem mem' in_memory m.receive k refl (change.others Receive k (λ e. slots-differ ring_size k (completed Receive mem m.receive) (λ e. omega arith) (omega arith) (omega arith)))
+      (open-bytes Receive k k_open (λ two. let same = two.1 in omega arith)) from below
+
+  new : received_bytes mem' m.receive (completed Receive mem m.receive) ≡ written
+  new =
+      let ring = in_memory.ring Receive in
+      let is = ring.each (completed Receive mem m.receive) head-open in
+      let size = ap (λ (d : RxDesc). d.length) (received-became m mem mem' in_memory rx_back written more heard) in
+      ap (λ n. bytes_at mem' (address_of (place_for m.receive (completed Receive mem m.receive))) n) size
+      ∙ ap (λ at. bytes_at mem' at (length written)) (sym is.descriptor.named) ∙ heard.bytes
+
+  goes_on : completed Receive mem' m.receive ≡ completed Receive mem m.receive + 1
+  goes_on = completed-then Receive m mem mem' in_memory more (received-completes m mem mem' in_memory rx_back behind written more heard) on Receive
+
+  pub received-arrived : received_frames mem' m.receive ≡ received_frames mem m.receive ++ written ∷ []
+  received-arrived =
+      let ring = in_memory.ring Receive in
+      queue-grows (received_bytes mem m.receive) (received_bytes mem' m.receive) m.receive.values.taken (completed Receive mem m.receive) _ written ring.taken goes_on before new
+
+  pub arrivals-arrived : arrivals mem' m ≡ arrivals mem m ++ record { handle = handle_for m (completed Receive mem m.receive); bytes = written } ∷ []
+  arrivals-arrived =
+      let ring = in_memory.ring Receive in
+      queue-grows (arrival_at mem m) (arrival_at mem' m) m.receive.values.taken (completed Receive mem m.receive) _ _ ring.taken goes_on
+      (λ k from below. ap (arrival k) (before k from below)) (ap (arrival (completed Receive mem m.receive)) new)
+    where
+      arrival : ℕ → List ℕ → Arrival
+      arrival k bytes = record { handle = handle_for m k; bytes = bytes }
+
+  pub unsent-arrived : unsent_frames mem' m.transmit ≡ unsent_frames mem m.transmit
+  unsent-arrived =
+      let change = received-completes m mem mem' in_memory rx_back behind written more heard in
+      unsent-left m mem mem' in_memory (record {
+        descriptor = λ k is_open. change.others Transmit k (λ same. let clash : Transmit ≡ Receive = same in absurd (cc));
+        bytes = λ k is_open. open-bytes Transmit k is_open (λ two. let clash : Transmit ≡ Receive = two.0 in cc);
+      })
