@@ -1,5 +1,5 @@
 -- How far the device is with a ring, after a change.
-use Rattle.std.proofs.Common.{◌≡◌, ℕ, suc, ◌+◌, ◌-◌, ◌<◌, ◌≤◌, List, length, sym, ◌∙◌, ap, inr, ⊎_elim, subst, refl, arith}
+use Rattle.std.proofs.Common.{◌≡◌, ◌≢◌, ℕ, suc, ◌+◌, ◌-◌, ◌<◌, ◌≤◌, List, length, sym, ◌∙◌, ap, inr, ⊎_elim, subst, refl, arith}
 use Rattle.std.proofs.lemmas.Bool.{cases_lt}
 use Rattle.ibos_pool.specs.declared.name.Ring.{Ring}
 use Rattle.ibos_pool.specs.declared.place.Place.{Place}
@@ -23,6 +23,9 @@ completed-low ring mem r = first_not-low (is_done ring mem) r.values.taken (r.va
 
 pub completed-high : (ring : Ring) (mem : Memory) (r : RingView) → r.values.taken ≤ r.values.posted → completed ring mem r ≤ r.values.posted
 completed-high ring mem r order = let high = first_not-high (is_done ring mem) r.values.taken (r.values.posted - r.values.taken) in omega arith
+
+pub completed-more : (ring : Ring) (mem : Memory) (r : RingView) → completed ring mem r ≢ r.values.taken → r.values.taken < completed ring mem r
+completed-more ring mem r differ = let low = completed-low ring mem r in omega arith
 
 -- where the open descriptors stay
 pub completed-same : (ring : Ring) (mem mem' : Memory) (r : RingView) → ((number : ℕ) → IsOpen r number → descriptor_of ring mem' number ≡ descriptor_of ring mem number) → completed ring mem' r ≡ completed ring mem r
