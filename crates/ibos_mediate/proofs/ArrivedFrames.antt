@@ -1,10 +1,10 @@
 -- A frame that is heard is the last of those received, and the device leaves every other buffer.
-use Rattle.std.proofs.Common.{◌≡◌, ◌≢◌, ℕ, ◌+◌, ◌-◌, ◌<◌, ◌≤◌, ◌⊎◌, List, [], ◌∷◌, ◌++◌, length, sym, ◌∙◌, ap, inl, inr, ⊎_elim, subst, refl, arith}
+use Rattle.std.proofs.Common.{◌≡◌, ◌≢◌, ℕ, ◌+◌, ◌-◌, ◌<◌, ◌≤◌, ◌⊎◌, List, [], ◌∷◌, ◌++◌, true, false, length, sym, ◌∙◌, ap, inl, inr, ⊎_elim, subst, refl, arith}
 use Rattle.std.specs.Prelude.{IsTrue, slice_index}
 use Rattle.ibos_pool.specs.declared.name.Ring.{Ring}
 use Rattle.ibos_pool.specs.declared.name.Ring.TheVariants.{Receive, Transmit}
 use Rattle.ibos_pool.specs.declared.place.Place.{Place}
-use Rattle.ibos_pool.specs.Memory.{Memory, bytes_at}
+use Rattle.ibos_pool.specs.Memory.{IsKept, Memory, bytes_at, is_lent_at}
 use Rattle.ibos_pool.specs.Places.{IsApart, IsPlaceIn, address_of, ring_base}
 use Rattle.ibos_pool.specs.Sizes.{buffer_bytes, ring_room}
 use Rattle.ibos_nic.specs.declared.descriptor.RxDesc.{RxDesc}
@@ -35,6 +35,15 @@ module _ (rx_back : (d : RxDesc) → FitsRx d → rx_of (rx_bytes d) ≡ d) (beh
       let is = ring.each (completed Receive mem m.receive) head-open in
       let low = behind (length mem) Receive p place in
       others-stay buffers mem mem' (descriptor_at Receive (completed Receive mem m.receive)) (length mem) written (place_for m.receive (completed Receive mem m.receive)) p is.descriptor.named is.lent.place place differ heard n small (inr (omega arith))
+
+  -- a buffer that is not lent
+  pub kept-bytes : (p : Place) → IsKept mem p → (n : ℕ) → n ≤ buffer_bytes → bytes_at mem' (address_of p) n ≡ bytes_at mem (address_of p) n
+  kept-bytes p kept =
+      let ring = in_memory.ring Receive in
+      let is = ring.each (completed Receive mem m.receive) head-open in
+      other-bytes p kept.place (λ same.
+      let P : Place → Type 0 = λ q. is_lent_at mem q ≡ false in
+      let clash : true ≡ false = sym is.lent.lent ∙ subst P same kept.kept in cc)
 
   open-bytes : (one : Ring) (k : ℕ) → IsOpen (ring_of m one) k → ((one ≡ Receive) × (k ≡ completed Receive mem m.receive) → ⊥) → (n : ℕ) → n ≤ buffer_bytes
       → bytes_at mem' (address_of (place_for (ring_of m one) k)) n ≡ bytes_at mem (address_of (place_for (ring_of m one) k)) n
