@@ -31,7 +31,7 @@ use Rattle.ibos_mediate.specs.States.{no_ring}
 use Rattle.ibos_mediate.proofs.CountLemmas.{completed-same}
 use Rattle.ibos_mediate.proofs.FirstLemmas.{first_not-none}
 use Rattle.ibos_mediate.proofs.OtherFrames.{descriptors-left}
-use Rattle.ibos_mediate.proofs.PostChange.{loan-claimed}
+use Rattle.ibos_mediate.proofs.PostChange.{owned-claimed}
 use Rattle.ibos_mediate.proofs.RegisterChange.{device-same}
 use Rattle.ibos_mediate.proofs.Rings.{memory-from, ring-stays}
 
@@ -115,8 +115,8 @@ module _ (m : Mediated) (mem mem' : Memory) (slots : (ring : Ring) (slot : ℕ) 
   keeps-else memory longer areas lent = record {
     memory = memory-else memory areas (λ p is. let place = is.place in let low = place.area in record { place = record { area = omega arith; index = place.index }; lent = lent p ∙ is.lent });
     device = λ regs regs' same device. subst (λ x. IsAtDevice m mem' x) (sym same) (device-else regs device);
-    owned = λ names names' same owned. subst (λ n. (ring : Ring) → AreOwned ring (ring_of m ring) n) (sym same) owned;
-    unheld = λ names names' same owned out unheld. subst (λ n. AreUnheldBut out m n mem') (sym same) (unheld-else m mem mem' names out longer lent unheld);
+    owned = λ names names' same ring owned. subst (AreOwned ring (ring_of m ring)) (sym same) owned;
+    unheld = λ names names' same out unheld. subst (λ n. AreUnheldBut out m n mem') (sym same) (unheld-else m mem mem' names out longer lent unheld);
   }
 
 -- what is written into a buffer leaves the rings
@@ -167,9 +167,6 @@ marks-sent mem mem' at (Ok false) sent unsent = same_marks mem mem' unsent
 marks-sent mem mem' at (Err e) sent unsent = same_marks mem mem' unsent
 
 -- Names of the pool.
-pub owned-claimed : (r : RingView) (ring : Ring) (old new : Names) (name : Name) → AreOwned ring r old → IsClaimed old new name true → AreOwned ring r new
-owned-claimed r ring old new name owned claimed number is_open = let is = owned number is_open in (loan-claimed old new name _ claimed is.0, is.1)
-
 pub owned-given : (r : RingView) (ring : Ring) (old new : Names) (name : Name) → AreOwned ring r old → IsClaimed old new name false
     → ((number : ℕ) → IsOpen r number → same_name (held_for r number).name name ≡ false) → AreOwned ring r new
 owned-given r ring old new name owned claimed differ number is_open =
