@@ -12,7 +12,7 @@ use Rattle.ibos_mediate.specs.Changes.{changed}
 use Rattle.ibos_mediate.specs.Mediated.{Mediated, RingView, ring_of}
 use Rattle.ibos_mediate.specs.Posts.{IsPosted}
 use Rattle.ibos_mediate.specs.Relation.{IsInMemory, IsOpen, IsRingInMemory, completed, descriptor_at, descriptor_of, has_done, is_done}
-use Rattle.ibos_mediate.proofs.FirstLemmas.{first_not-behind, first_not-high, first_not-is, first_not-low, first_not-same}
+use Rattle.ibos_nic.proofs.FirstLemmas.{first_not-behind, first_not-high, first_not-is, first_not-low, first_not-same}
 use Rattle.ibos_mediate.proofs.Keeps.{on_changed}
 use Rattle.ibos_mediate.proofs.PostChange.{descriptors-posted, posted}
 use Rattle.ibos_mediate.proofs.Rings.{undone}

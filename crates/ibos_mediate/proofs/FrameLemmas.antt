@@ -8,11 +8,11 @@ use Rattle.ibos_pool.specs.Names.{Held}
 use Rattle.ibos_pool.specs.Places.{address_of}
 use Rattle.ibos_pool.specs.Sizes.{buffer_bytes}
 use Rattle.ibos_nic.specs.Descriptors.{tx_of}
-use Rattle.ibos_mediate.specs.Frames.{Arrival, arrival_at, arrivals, outgoing_bytes, queue, received_bytes, received_frames, unsent_frames}
+use Rattle.ibos_mediate.specs.Frames.{Arrival, arrival_at, arrivals, handle_for, handle_of, outgoing_bytes, queue, received_bytes, received_frames, unsent_frames}
 use Rattle.ibos_mediate.specs.Mediated.{Mediated, RingView, ring_of}
 use Rattle.ibos_mediate.specs.Relation.{IsInMemory, IsOpen, completed, descriptor_of, held_for, length_in, place_for}
 use Rattle.ibos_mediate.proofs.CountLemmas.{completed-same}
-use Rattle.ibos_mediate.proofs.QueueLemmas.{queue-same}
+use Rattle.ibos_mediate.proofs.QueueLemmas.{queue-still}
 
 -- the descriptors of these numbers have their buffers, and both have their bytes
 pub record IsSame (ring : Ring) (r r' : RingView) (mem mem' : Memory) (low high : ℕ) : Type 0 where
@@ -24,11 +24,6 @@ pub record IsSame (ring : Ring) (r r' : RingView) (mem mem' : Memory) (low high 
 pub record IsLeft (ring : Ring) (r : RingView) (mem mem' : Memory) : Type 0 where
   pub descriptor : (k : ℕ) → IsOpen r k → descriptor_of ring mem' k ≡ descriptor_of ring mem k
   pub bytes : (k : ℕ) → IsOpen r k → (n : ℕ) → n ≤ buffer_bytes → bytes_at mem' (address_of (place_for r k)) n ≡ bytes_at mem (address_of (place_for r k)) n
-
-queue-still : {A : Type 0} (f g : ℕ → A) (a b a' b' : ℕ) → a' ≡ a → b' ≡ b → ((k : ℕ) → a ≤ k → k < b → g k ≡ f k) → queue g a' (b' - a') ≡ queue f a (b - a)
-queue-still f g a b a' b' is is' same =
-    let count : b' - a' ≡ b - a = omega arith in
-    ap (λ x. queue g x (b' - a')) is ∙ ap (queue g a) count ∙ queue-same f g a (b - a) (λ k low high. same k low (omega arith))
 
 module _ (m : Mediated) (mem mem' : Memory) (memory : IsInMemory m mem) where
   -- a frame that was received
@@ -53,13 +48,9 @@ module _ (m : Mediated) (mem mem' : Memory) (memory : IsInMemory m mem) where
   arrivals-still m' taken turns count same = queue-still (arrival_at mem m) (arrival_at mem' m') m.receive.values.taken (completed Receive mem m.receive) _ _ taken count
       (λ k low high.
       let held = same.held k low high in
-      let bytes = received-at m'.receive k held (same.descriptor k low high) (same.bytes k low high) low high in
-      ap (λ (h : Held). arrival h.name.index (slice_index m'.turns h.name.index + 1) (received_bytes mem' m'.receive k)) held
-      ∙ ap (λ (ts : List ℕ). arrival (held_for m.receive k).name.index (slice_index ts (held_for m.receive k).name.index + 1) (received_bytes mem' m'.receive k)) turns
-      ∙ ap (λ bs. arrival (held_for m.receive k).name.index (slice_index m.turns (held_for m.receive k).name.index + 1) bs) bytes)
-    where
-      arrival : ℕ → ℕ → List ℕ → Arrival
-      arrival name turn bytes = record { handle = record { name = name; turn = turn }; bytes = bytes }
+      ap (λ (h : Held). record { handle = handle_of h m'.turns; bytes = received_bytes mem' m'.receive k }) held
+      ∙ ap (λ ts. record { handle = handle_of (held_for m.receive k) ts; bytes = received_bytes mem' m'.receive k }) turns
+      ∙ ap (λ bs. record { handle = handle_for m k; bytes = bs }) (received-at m'.receive k held (same.descriptor k low high) (same.bytes k low high) low high))
 
   pub outgoing-at : (r' : RingView) (k : ℕ) → held_for r' k ≡ held_for m.transmit k → descriptor_of Transmit mem' k ≡ descriptor_of Transmit mem k
       → ((n : ℕ) → n ≤ buffer_bytes → bytes_at mem' (address_of (place_for m.transmit k)) n ≡ bytes_at mem (address_of (place_for m.transmit k)) n)

@@ -29,7 +29,7 @@ use Rattle.ibos_mediate.specs.Mediated.{Mediated, RingView, ring_of}
 use Rattle.ibos_mediate.specs.Relation.{AreOwned, AreUnheldBut, IsAtDevice, IsInMemory, IsLoanFor, IsOpen, IsRingInMemory, MediatesBut, completed, held_for, is_done, slot_of, value_of}
 use Rattle.ibos_mediate.specs.States.{no_ring}
 use Rattle.ibos_mediate.proofs.CountLemmas.{completed-same}
-use Rattle.ibos_mediate.proofs.FirstLemmas.{first_not-none}
+use Rattle.ibos_nic.proofs.FirstLemmas.{first_not-none}
 use Rattle.ibos_mediate.proofs.OtherFrames.{descriptors-left}
 use Rattle.ibos_mediate.proofs.PostChange.{owned-claimed}
 use Rattle.ibos_mediate.proofs.RegisterChange.{device-same}

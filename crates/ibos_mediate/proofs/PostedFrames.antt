@@ -19,7 +19,7 @@ use Rattle.ibos_mediate.specs.Mediated.{Mediated, RingView, ring_of}
 use Rattle.ibos_mediate.specs.Posts.{IsPosted}
 use Rattle.ibos_mediate.specs.Relation.{IsInMemory, IsOpen, IsRingInMemory, completed, descriptor_at, descriptor_of, held_for, place_for, posted_tx}
 use Rattle.ibos_mediate.proofs.CountLemmas.{completed-posted}
-use Rattle.ibos_mediate.proofs.DeviceChange.{address-small}
+use Rattle.ibos_pool.proofs.PlaceLemmas.{address-small}
 use Rattle.ibos_mediate.proofs.FrameLemmas.{IsLeft, IsSame, arrivals-left, arrivals-still, outgoing-at, received-left, received-still, unsent-left}
 use Rattle.ibos_mediate.proofs.Keeps.{on_changed}
 use Rattle.ibos_mediate.proofs.PostChange.{descriptors-posted, held-before, held-new, posted}

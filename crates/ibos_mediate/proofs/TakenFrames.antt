@@ -10,13 +10,13 @@ use Rattle.ibos_pool.specs.Names.{Held, Names}
 use Rattle.ibos_pool.specs.Places.{address_of}
 use Rattle.ibos_nic.specs.Device.{tx_at}
 use Rattle.ibos_nic.specs.Rules.{with_turn}
-use Rattle.ibos_mediate.specs.Frames.{Arrival, after_bell, arrival_at, arrivals, outgoing_bytes, queue, received_bytes, received_frames, returns, take_back, taken_back, unsent_frames}
+use Rattle.ibos_mediate.specs.Frames.{Arrival, after_bell, arrival_at, arrivals, handle_for, handle_of, outgoing_bytes, queue, received_bytes, received_frames, returns, take_back, taken_back, unsent_frames}
 use Rattle.ibos_mediate.specs.Mediated.{Mediated, RingView, ring_of}
 use Rattle.ibos_mediate.specs.Relation.{AreOwned, IsInMemory, IsOpen, completed, descriptor_at, descriptor_of, held_for, length_in, place_for}
 use Rattle.ibos_mediate.proofs.ApartLemmas.{names-apart}
 use Rattle.ibos_mediate.proofs.CountLemmas.{completed-same, completed-taken}
 use Rattle.ibos_mediate.proofs.FrameLemmas.{IsLeft, IsSame, arrivals-left, received-left, unsent-left, unsent-still}
-use Rattle.ibos_mediate.proofs.QueueLemmas.{queue-none, queue-shrinks}
+use Rattle.ibos_mediate.proofs.QueueLemmas.{queue-shrinks}
 use Rattle.ibos_mediate.proofs.TakeChange.{held-after, taken}
 
 -- no byte changes
@@ -48,13 +48,11 @@ module _ (m : Mediated) (mem mem' : Memory) (same : (from n : ℕ) → bytes_at 
         let name : (held_for m.receive k).name ≡ (held_for m.receive m.receive.values.taken).name = same_parts _ _ (one ∙ sym other) e in
         let k_is = (names-apart m mem names memory Receive Receive owned owned k m.receive.values.taken k_open first_open name).1 in
         omega arith in
-        ap (λ (h : Held). arrival h.name.index (slice_index (with_turn m.turns (held_for m.receive m.receive.values.taken).name.index) h.name.index + 1) (received_bytes mem' (taken m.receive) k)) (held-after m.receive k (omega arith))
-        ∙ ap (λ t. arrival (held_for m.receive k).name.index (t + 1) (received_bytes mem' (taken m.receive) k)) (get_or-set_other m.turns (held_for m.receive m.receive.values.taken).name.index (held_for m.receive k).name.index _ 0 differ)
-        ∙ ap (λ bs. arrival (held_for m.receive k).name.index (slice_index m.turns (held_for m.receive k).name.index + 1) bs) (later k low))
+        ap (λ (h : Held). record { handle = handle_of h (with_turn m.turns (held_for m.receive m.receive.values.taken).name.index); bytes = received_bytes mem' (taken m.receive) k }) (held-after m.receive k (omega arith))
+        ∙ ap (λ t. record { handle = record { name = (held_for m.receive k).name.index; turn = t + 1 }; bytes = received_bytes mem' (taken m.receive) k })
+        (get_or-set_other m.turns (held_for m.receive m.receive.values.taken).name.index (held_for m.receive k).name.index _ 0 differ)
+        ∙ ap (λ bs. record { handle = handle_for m k; bytes = bs }) (later k low))
       where
-        arrival : ℕ → ℕ → List ℕ → Arrival
-        arrival name turn bytes = record { handle = record { name = name; turn = turn }; bytes = bytes }
-
         same_parts : (a b : Name) → a.area ≡ b.area → a.index ≡ b.index → a ≡ b
         same_parts a b area index = grind arith
 
@@ -70,16 +68,6 @@ module _ (m : Mediated) (mem mem' : Memory) (same : (from n : ℕ) → bytes_at 
 pub bell-ends : (ring : Ring) (mem : Memory) (m : Mediated) → completed ring mem (ring_of m ring) ≡ (ring_of m ring).values.taken → after_bell ring mem m ≡ m
 unfolding take_back
 bell-ends ring mem m none = let count : completed ring mem (ring_of m ring) - (ring_of m ring).values.taken ≡ 0 = omega arith in rw count refl
-
-pub arrivals-end : (mem : Memory) (m : Mediated) → completed Receive mem m.receive ≡ m.receive.values.taken → arrivals mem m ≡ []
-arrivals-end mem m none =
-    let count : completed Receive mem m.receive - m.receive.values.taken ≡ 0 = omega arith in
-    ap (queue (arrival_at mem m) m.receive.values.taken) count ∙ queue-none _ _
-
-pub returns-end : (mem : Memory) (r : RingView) → completed Transmit mem r ≡ r.values.taken → returns mem r ≡ []
-returns-end mem r none =
-    let count : completed Transmit mem r - r.values.taken ≡ 0 = omega arith in
-    ap (queue (held_for r) r.values.taken) count ∙ queue-none _ _
 
 -- what is left to be taken back ends in the same mediator
 take_back-step : (ring : Ring) (left : ℕ) (m : Mediated) → take_back ring (suc left) m ≡ take_back ring left (taken_back ring m)

@@ -1,5 +1,5 @@
 -- The values of one ring, with no buffer and no memory, and what changes them.
-use Rattle.std.specs.Prelude.{ℕ, ◌+◌, List, [], ◌∷◌, ◌++◌, drop}
+use Rattle.std.specs.Prelude.{ℕ, zero, suc, ◌+◌, List, [], ◌∷◌, ◌++◌, Bool, drop, if◌then◌else◌}
 use Rattle.ibos_nic.specs.declared.part.Part.{Part}
 use Rattle.ibos_nic.specs.declared.part.Part.TheVariants.{Base, Length, Tail, Control}
 use Rattle.ibos_nic.specs.Device.{distance}
@@ -48,3 +48,8 @@ held_changed held (Writes part value) = held
 held_changed held (Posts what) = held ++ what ∷ []
 held_changed held Completes = held
 held_changed held Takes = drop 1 held
+
+-- the first of the next few numbers for which a test fails, or the one behind them
+unfoldable pub first_not : (ℕ → Bool) → ℕ → ℕ → ℕ
+first_not test number zero = number
+first_not test number (suc left) = if test number then first_not test (number + 1) left else number
