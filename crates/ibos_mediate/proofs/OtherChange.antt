@@ -32,7 +32,7 @@ use Rattle.ibos_mediate.proofs.CountLemmas.{completed-same}
 use Rattle.ibos_nic.proofs.FirstLemmas.{first_not-none}
 use Rattle.ibos_mediate.proofs.OtherFrames.{descriptors-left}
 use Rattle.ibos_mediate.proofs.PostChange.{owned-claimed}
-use Rattle.ibos_mediate.proofs.RegisterChange.{device-same}
+use Rattle.ibos_mediate.proofs.RegisterChange.{device-same, keeps-still, unheld-else}
 use Rattle.ibos_mediate.proofs.Rings.{memory-from, ring-stays}
 
 -- The beginning.
@@ -54,11 +54,7 @@ ring-none ring mem = record {
 
 value-none : (ring : Ring) (mem : Memory) (part : Part) → value_of no_ring (completed ring mem no_ring) part ≡ 0
 value-none ring mem Head = ap slot_of (completed-none ring mem)
-value-none ring mem Base = refl
-value-none ring mem High = refl
-value-none ring mem Length = refl
-value-none ring mem Tail = refl
-value-none ring mem Control = refl
+value-none ring mem other = refl
 
 no_register : (reg : Reg) → part_of reg ≡ None → (ring : Ring) (part : Part) → reg_of ring part ≢ reg
 no_register reg none ring part same =
@@ -92,15 +88,6 @@ unheld-begins m names mem one areas some free kept index below outside not_out =
     let here : IsNameIn (length names) (receive_name index) = record { area = some; index = below } in
     record { free = free _; kept = record { place = rw areas (one.within _ here); kept = kept _ } }
 
--- where no mark changes, no more is held
-pub unheld-else : (m : Mediated) (mem mem' : Memory) (names : Names) (out : List Held) → length mem ≤ length mem' → ((p : Place) → is_lent_at mem' p ≡ is_lent_at mem p)
-    → AreUnheldBut out m names mem → AreUnheldBut out m names mem'
-unheld-else m mem mem' names out longer lent unheld index within outside not_out =
-    let was = unheld index within outside not_out in
-    let place = was.kept.place in
-    let low = place.area in
-    record { free = was.free; kept = record { place = record { area = omega arith; index = place.index }; kept = lent _ ∙ was.kept.kept } }
-
 -- No descriptor changes.
 module _ (m : Mediated) (mem mem' : Memory) (slots : (ring : Ring) (slot : ℕ) → slot < room_slots → slot_at mem' ring slot ≡ slot_at mem ring slot) where
   pub memory-else : IsInMemory m mem → length mem' ≤ max_areas → ((p : Place) → IsLent mem p → IsLent mem' p) → IsInMemory m mem'
@@ -112,12 +99,9 @@ module _ (m : Mediated) (mem mem' : Memory) (slots : (ring : Ring) (slot : ℕ) 
       device ring part ∙ sym (ap (λ n. value_of (ring_of m ring) n part) (completed-same ring mem mem' (ring_of m ring) (λ number is_open. descriptors-left mem mem' slots ring number)))
 
   pub keeps-else : IsInMemory m mem → length mem ≤ length mem' → length mem' ≤ max_areas → ((p : Place) → is_lent_at mem' p ≡ is_lent_at mem p) → Keeps [] m m mem mem' SameRegisters SameNames
-  keeps-else memory longer areas lent = record {
-    memory = memory-else memory areas (λ p is. let place = is.place in let low = place.area in record { place = record { area = omega arith; index = place.index }; lent = lent p ∙ is.lent });
-    device = λ regs regs' same device. subst (λ x. IsAtDevice m mem' x) (sym same) (device-else regs device);
-    owned = λ names names' same ring owned. subst (AreOwned ring (ring_of m ring)) (sym same) owned;
-    unheld = λ names names' same out unheld. subst (λ n. AreUnheldBut out m n mem') (sym same) (unheld-else m mem mem' names out longer lent unheld);
-  }
+  keeps-else memory longer areas lent = keeps-still m mem mem' SameRegisters
+      (memory-else memory areas (λ p is. let place = is.place in let low = place.area in record { place = record { area = omega arith; index = place.index }; lent = lent p ∙ is.lent }))
+      (λ regs regs' same device. subst (λ x. IsAtDevice m mem' x) (sym same) (device-else regs device)) lent longer
 
 -- what is written into a buffer leaves the rings
 pub slots-written : (behind : (areas : ℕ) (ring : Ring) (p : Place) → IsPlaceIn areas p → ring_base ring + ring_room ≤ address_of p)
