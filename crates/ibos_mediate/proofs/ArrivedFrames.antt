@@ -1,21 +1,8 @@
 -- A frame that is heard is the last of those received, and the device leaves every other buffer.
 use Rattle.std.proofs.Common.{◌≡◌, ◌≢◌, ℕ, ◌+◌, ◌-◌, ◌<◌, ◌≤◌, ◌⊎◌, List, [], ◌∷◌, ◌++◌, true, false, length, sym, ◌∙◌, ap, inl, inr, ⊎_elim, subst, refl, arith}
-use Rattle.std.specs.Prelude.{IsTrue, slice_index}
-use Rattle.ibos_pool.specs.declared.name.Ring.{Ring}
-use Rattle.ibos_pool.specs.declared.name.Ring.TheVariants.{Receive, Transmit}
-use Rattle.ibos_pool.specs.declared.place.Place.{Place}
-use Rattle.ibos_pool.specs.Memory.{IsKept, Memory, bytes_at, is_lent_at}
-use Rattle.ibos_pool.specs.Places.{IsApart, IsPlaceIn, address_of, ring_base}
-use Rattle.ibos_pool.specs.Sizes.{buffer_bytes, ring_room}
-use Rattle.ibos_nic.specs.declared.descriptor.RxDesc.{RxDesc}
-use Rattle.ibos_nic.specs.Descriptors.{FitsRx, rx_bytes, rx_of}
-use Rattle.ibos_nic.specs.Device.{IsReceived}
-use Rattle.ibos_nic.specs.Registers.{is_enabled, ring_size}
+use Rattle.ibos_mediate.proofs.Words.{Arrival, FitsRx, IsApart, IsInMemory, IsKept, IsOpen, IsPlaceIn, IsReceived, IsTrue, Mediated, Memory, Place, Receive, Ring, RxDesc, Transmit, address_of, arrival_at, arrivals, buffer_bytes, bytes_at, completed, descriptor_at, descriptor_of, handle_for, is_enabled, is_lent_at, place_for, received_bytes, received_frames, ring_base, ring_of, ring_room, ring_size, rx_bytes, rx_of, slice_index, unsent_frames}
 use Rattle.ibos_nic.proofs.DeviceLemmas.{others-stay}
 use Rattle.ibos_nic.proofs.SlotLemmas.{slots-differ}
-use Rattle.ibos_mediate.specs.Frames.{Arrival, arrival_at, arrivals, handle_for, received_bytes, received_frames, unsent_frames}
-use Rattle.ibos_mediate.specs.Mediated.{Mediated, ring_of}
-use Rattle.ibos_mediate.specs.Relation.{IsInMemory, IsOpen, completed, descriptor_at, descriptor_of, place_for}
 use Rattle.ibos_mediate.proofs.CompleteChange.{completed-then, its_open}
 use Rattle.ibos_mediate.proofs.DeviceChange.{received-became, received-completes}
 use Rattle.ibos_mediate.proofs.FrameLemmas.{IsLeft, received-at, unsent-left}

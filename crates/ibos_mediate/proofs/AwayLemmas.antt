@@ -1,14 +1,7 @@
 -- The buffers that the rings hold are away.
 use Rattle.std.proofs.Common.{◌≡◌, ℕ, ◌+◌, ◌-◌, ◌<◌, List, ◌++◌, length, sym, ◌∙◌, ap, subst, arith}
-use Rattle.std.specs.Prelude.{slice_index_or}
+use Rattle.ibos_mediate.proofs.Words.{AreAway, AreOwned, Held, IsInMemory, IsLent, IsLoanOf, IsOpen, Mediated, Memory, Names, Receive, Ring, Transmit, no_buffer, ring_of, slice_index_or}
 use Rattle.ibos_pool.proofs.GivingLemmas.{away-append, away-each, not_placed}
-use Rattle.ibos_pool.specs.declared.name.Ring.{Ring}
-use Rattle.ibos_pool.specs.declared.name.Ring.TheVariants.{Receive, Transmit}
-use Rattle.ibos_pool.specs.Hands.{AreAway, no_buffer}
-use Rattle.ibos_pool.specs.Memory.{IsLent, Memory}
-use Rattle.ibos_pool.specs.Names.{Held, IsLoanOf, Names}
-use Rattle.ibos_mediate.specs.Mediated.{Mediated, ring_of}
-use Rattle.ibos_mediate.specs.Relation.{AreOwned, IsInMemory, IsOpen}
 
 abbrev buffer_in : List Held → ℕ → Held
 buffer_in held k = slice_index_or held k no_buffer

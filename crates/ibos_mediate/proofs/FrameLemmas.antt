@@ -1,16 +1,6 @@
 -- What the rings have to tell stays where a change leaves descriptors, buffers and counts.
 use Rattle.std.proofs.Common.{◌≡◌, ◌≢◌, ℕ, ◌+◌, ◌-◌, ◌<◌, ◌≤◌, ◌⊎◌, List, [], ◌∷◌, length, sym, ◌∙◌, ap, subst, refl, arith}
-use Rattle.std.specs.Prelude.{slice_index}
-use Rattle.ibos_pool.specs.declared.name.Ring.{Ring}
-use Rattle.ibos_pool.specs.declared.name.Ring.TheVariants.{Receive, Transmit}
-use Rattle.ibos_pool.specs.Memory.{Memory, bytes_at}
-use Rattle.ibos_pool.specs.Names.{Held}
-use Rattle.ibos_pool.specs.Places.{address_of}
-use Rattle.ibos_pool.specs.Sizes.{buffer_bytes}
-use Rattle.ibos_nic.specs.Descriptors.{tx_of}
-use Rattle.ibos_mediate.specs.Frames.{Arrival, arrival_at, arrivals, handle_for, handle_of, outgoing_bytes, queue, received_bytes, received_frames, unsent_frames}
-use Rattle.ibos_mediate.specs.Mediated.{Mediated, RingView, ring_of}
-use Rattle.ibos_mediate.specs.Relation.{IsInMemory, IsOpen, completed, descriptor_of, held_for, length_in, place_for}
+use Rattle.ibos_mediate.proofs.Words.{Arrival, Held, IsInMemory, IsOpen, Mediated, Memory, Receive, Ring, RingView, Transmit, address_of, arrival_at, arrivals, buffer_bytes, bytes_at, completed, descriptor_of, handle_for, handle_of, held_for, length_in, outgoing_bytes, place_for, queue, received_bytes, received_frames, ring_of, slice_index, tx_of, unsent_frames}
 use Rattle.ibos_mediate.proofs.CountLemmas.{completed-same}
 use Rattle.ibos_mediate.proofs.QueueLemmas.{queue-still}
 

@@ -1,33 +1,8 @@
 -- How the relation begins, and what keeps it that is no call of the mediator or of the device.
 use Rattle.std.proofs.Common.{◌≡◌, ◌≢◌, ℕ, ◌+◌, ◌<◌, ◌≤◌, ◌⊎◌, ◌==◌, ◌&&◌, List, [], ◌∷◌, Bool, true, false, None, Some, cond, length, refl, sym, ◌∙◌, ap, inl, inr, ⊎_elim, subst, arith}
 use Rattle.std.proofs.lemmas.Bool.Decides.{nat_tests}
-use Rattle.std.specs.Prelude.{Ok, Err, Result}
-use Rattle.ibos_kinds.specs.declared.bytes.Memory.{Memory as NoMemory}
-use Rattle.ibos_kinds.specs.declared.names.Verdict.{Verdict}
-use Rattle.ibos_kinds.specs.declared.names.Verdict.TheVariants.{Filtered, Heard, Missed}
-use Rattle.ibos_pool.specs.declared.name.Name.{Name}
-use Rattle.ibos_pool.specs.declared.name.Ring.{Ring}
-use Rattle.ibos_pool.specs.declared.name.Ring.TheVariants.{Receive, Transmit}
-use Rattle.ibos_pool.specs.declared.place.Place.{Place}
-use Rattle.ibos_pool.specs.Memory.{IsKept, IsLent, IsWritten, Memory, bytes_at, is_lent_at, slot_at}
-use Rattle.ibos_pool.specs.Names.{Held, IsClaimed, IsLoanOf, IsNameIn, IsOneToOne, Names, is_taken, place_of, same_name}
-use Rattle.ibos_pool.specs.Places.{IsInside, IsPlaceIn, address_of, ring_base, slot_address}
-use Rattle.ibos_pool.specs.Sizes.{descriptor_bytes, max_areas, ring_room, room_slots}
-use Rattle.ibos_nic.specs.declared.log.LogEntry.{LogEntry}
-use Rattle.ibos_nic.specs.declared.part.Part.{Part}
-use Rattle.ibos_nic.specs.declared.part.Part.TheVariants.{Base, High, Length, Head, Tail, Control}
-use Rattle.ibos_nic.specs.declared.part.RingPart.{RingPart}
-use Rattle.ibos_nic.specs.declared.reg.Reg.{Reg}
-use Rattle.ibos_nic.specs.declared.reg.Reg.TheVariants.{Rah0, Ral0, Status}
-use Rattle.ibos_nic.specs.Device.{IsTransmitted, OnHeard, OnSent, OnUnheard, OnUnsent}
-use Rattle.ibos_nic.specs.Parts.{part_of, reg_of}
-use Rattle.ibos_nic.specs.Registers.{Registers, after_write, reset, ring_size, status}
-use Rattle.ibos_nic.specs.Rules.{receive_name}
+use Rattle.ibos_mediate.proofs.Words.{AreOwned, AreUnheldBut, Base, Control, Err, Filtered, Head, Heard, Held, High, IsAtDevice, IsClaimed, IsHeard, IsInMemory, IsInside, IsKept, IsLent, IsLoanFor, IsLoanOf, IsNameIn, IsOneToOne, IsOpen, IsPlaceIn, IsRingInMemory, IsTransmitted, IsWritten, Keeps, Length, LogEntry, Mediated, MediatesBut, Memory, NoMemory, Missed, Name, Names, Ok, OnHeard, OnSent, OnUnheard, OnUnsent, Part, Place, Rah0, Ral0, Receive, Reg, Registers, Result, Ring, RingPart, RingView, SameNames, SameRegisters, Status, Tail, Transmit, Verdict, address_of, after_write, bytes_at, completed, descriptor_bytes, held_for, is_done, is_lent_at, is_taken, max_areas, no_ring, part_of, place_of, receive_name, reg_of, reset, ring_base, ring_of, ring_room, ring_size, room_slots, same_name, slot_address, slot_at, slot_of, status, value_of}
 use Rattle.ibos_nic.proofs.PartLemmas.{no_part, part_of-reg_of}
-use Rattle.ibos_mediate.specs.Keeps.{IsHeard, Keeps, SameNames, SameRegisters}
-use Rattle.ibos_mediate.specs.Mediated.{Mediated, RingView, ring_of}
-use Rattle.ibos_mediate.specs.Relation.{AreOwned, AreUnheldBut, IsAtDevice, IsInMemory, IsLoanFor, IsOpen, IsRingInMemory, MediatesBut, completed, held_for, is_done, slot_of, value_of}
-use Rattle.ibos_mediate.specs.States.{no_ring}
 use Rattle.ibos_mediate.proofs.CountLemmas.{completed-same}
 use Rattle.ibos_nic.proofs.FirstLemmas.{first_not-none}
 use Rattle.ibos_mediate.proofs.OtherFrames.{descriptors-left}

@@ -1,23 +1,7 @@
 -- What leaves the descriptors and the lent buffers leaves the frames, and so does a write to a register.
 use Rattle.std.proofs.Common.{◌≡◌, ℕ, ◌+◌, ◌<◌, ◌≤◌, List, Option, None, Some, take, refl, sym, ◌∙◌, ap, subst, arith}
-use Rattle.ibos_pool.specs.declared.name.Ring.{Ring}
-use Rattle.ibos_pool.specs.declared.name.Ring.TheVariants.{Receive, Transmit}
-use Rattle.ibos_pool.specs.declared.place.Place.{Place}
-use Rattle.ibos_pool.specs.Memory.{IsLent, Memory, buffer_at, bytes_at, slot_at}
-use Rattle.ibos_pool.specs.Places.{address_of}
-use Rattle.ibos_pool.specs.Sizes.{buffer_bytes, room_slots}
-use Rattle.ibos_nic.specs.declared.part.Part.{Part}
-use Rattle.ibos_nic.specs.declared.part.Part.TheVariants.{Base, High, Length, Head, Tail, Control}
-use Rattle.ibos_nic.specs.declared.part.RingPart.{RingPart}
-use Rattle.ibos_nic.specs.declared.reg.Reg.{Reg}
-use Rattle.ibos_nic.specs.Parts.{part_of}
-use Rattle.ibos_nic.specs.Registers.{ring_size}
-use Rattle.ibos_nic.specs.Rings.{Writes}
+use Rattle.ibos_mediate.proofs.Words.{Base, Control, Head, High, IsInMemory, IsLent, Length, Mediated, Memory, Part, Place, Receive, Reg, Ring, RingPart, Tail, Transmit, Writes, address_of, after_writing, arrivals, buffer_at, buffer_bytes, bytes_at, changed, descriptor_of, part_of, received_frames, ring_of, ring_size, room_slots, slot_at, slot_of, unsent_frames, written_in}
 use Rattle.ibos_nic.proofs.SlotLemmas.{slot-below}
-use Rattle.ibos_mediate.specs.Changes.{after_writing, changed, written_in}
-use Rattle.ibos_mediate.specs.Frames.{arrivals, received_frames, unsent_frames}
-use Rattle.ibos_mediate.specs.Mediated.{Mediated, ring_of}
-use Rattle.ibos_mediate.specs.Relation.{IsInMemory, descriptor_of, slot_of}
 use Rattle.ibos_mediate.proofs.FrameLemmas.{IsLeft}
 
 pub descriptors-left : (mem mem' : Memory) → ((ring : Ring) (slot : ℕ) → slot < room_slots → slot_at mem' ring slot ≡ slot_at mem ring slot) → (ring : Ring) (k : ℕ) → descriptor_of ring mem' k ≡ descriptor_of ring mem k

@@ -1,23 +1,7 @@
 -- A transmit buffer that is posted has the last frame to be sent, and no other frame changes.
 use Rattle.std.proofs.Common.{◌≡◌, ◌≢◌, ℕ, ◌+◌, ◌-◌, ◌^◌, ◌<◌, ◌≤◌, List, [], ◌∷◌, ◌++◌, length, refl, sym, ◌∙◌, ap, inr, subst, arith}
-use Rattle.ibos_pool.specs.declared.name.Ring.{Ring}
-use Rattle.ibos_pool.specs.declared.name.Ring.TheVariants.{Receive, Transmit}
-use Rattle.ibos_pool.specs.declared.place.Place.{Place}
-use Rattle.ibos_pool.specs.Memory.{IsKept, Memory, bytes_at}
-use Rattle.ibos_pool.specs.Names.{Held}
-use Rattle.ibos_pool.specs.Places.{IsPlaceIn, address_of, ring_base}
-use Rattle.ibos_pool.specs.Sizes.{buffer_bytes, descriptor_bytes, ring_room}
-use Rattle.ibos_nic.specs.declared.descriptor.TxDesc.{TxDesc}
-use Rattle.ibos_nic.specs.Descriptors.{FitsTx, tx_bytes, tx_of}
-use Rattle.ibos_nic.specs.Device.{tx_at}
-use Rattle.ibos_nic.specs.Registers.{ring_size}
-use Rattle.ibos_nic.specs.Rings.{Posts}
+use Rattle.ibos_mediate.proofs.Words.{FitsTx, Held, IsInMemory, IsKept, IsOpen, IsPlaceIn, IsPosted, IsRingInMemory, Mediated, Memory, Place, Posts, Receive, Ring, RingView, Transmit, TxDesc, address_of, arrivals, buffer_bytes, bytes_at, changed, completed, descriptor_at, descriptor_bytes, descriptor_of, held_for, outgoing_bytes, place_for, posted_tx, queue, received_frames, ring_base, ring_of, ring_room, ring_size, tx_at, tx_bytes, tx_of, unsent_frames}
 use Rattle.ibos_nic.proofs.SlotLemmas.{slot-below}
-use Rattle.ibos_mediate.specs.Changes.{changed}
-use Rattle.ibos_mediate.specs.Frames.{arrivals, outgoing_bytes, queue, received_frames, unsent_frames}
-use Rattle.ibos_mediate.specs.Mediated.{Mediated, RingView, ring_of}
-use Rattle.ibos_mediate.specs.Posts.{IsPosted}
-use Rattle.ibos_mediate.specs.Relation.{IsInMemory, IsOpen, IsRingInMemory, completed, descriptor_at, descriptor_of, held_for, place_for, posted_tx}
 use Rattle.ibos_mediate.proofs.CountLemmas.{completed-posted}
 use Rattle.ibos_pool.proofs.PlaceLemmas.{address-small}
 use Rattle.ibos_mediate.proofs.FrameLemmas.{IsLeft, IsSame, arrivals-left, arrivals-still, outgoing-at, received-left, received-still, unsent-left}

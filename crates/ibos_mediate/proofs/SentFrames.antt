@@ -1,20 +1,7 @@
 -- A frame that is sent is the first of those to be sent.
 use Rattle.std.proofs.Common.{◌≡◌, ◌≢◌, ℕ, ◌+◌, ◌-◌, ◌<◌, ◌≤◌, List, [], ◌∷◌, length, sym, ◌∙◌, ap, inr, refl, arith}
-use Rattle.std.specs.Prelude.{IsTrue}
-use Rattle.ibos_pool.specs.declared.name.Ring.{Ring}
-use Rattle.ibos_pool.specs.declared.name.Ring.TheVariants.{Receive, Transmit}
-use Rattle.ibos_pool.specs.declared.place.Place.{Place}
-use Rattle.ibos_pool.specs.Memory.{Memory, bytes_at}
-use Rattle.ibos_pool.specs.Places.{IsPlaceIn, address_of, ring_base}
-use Rattle.ibos_pool.specs.Sizes.{descriptor_bytes, ring_room}
-use Rattle.ibos_nic.specs.declared.descriptor.TxDesc.{TxDesc}
-use Rattle.ibos_nic.specs.Descriptors.{FitsTx, tx_bytes, tx_of}
-use Rattle.ibos_nic.specs.Device.{IsTransmitted, frame_at, transmitted, tx_at}
-use Rattle.ibos_nic.specs.Registers.{is_enabled, ring_size}
+use Rattle.ibos_mediate.proofs.Words.{FitsTx, IsInMemory, IsOpen, IsPlaceIn, IsTransmitted, IsTrue, Mediated, Memory, Place, Receive, Ring, Transmit, TxDesc, address_of, arrivals, bytes_at, completed, descriptor_at, descriptor_bytes, frame_at, is_enabled, outgoing_bytes, place_for, queue, received_frames, ring_base, ring_of, ring_room, ring_size, transmitted, tx_at, tx_bytes, tx_of, unsent_frames}
 use Rattle.ibos_nic.proofs.SlotLemmas.{slot-below, slots-differ}
-use Rattle.ibos_mediate.specs.Frames.{arrivals, outgoing_bytes, queue, received_frames, unsent_frames}
-use Rattle.ibos_mediate.specs.Mediated.{Mediated, ring_of}
-use Rattle.ibos_mediate.specs.Relation.{IsInMemory, IsOpen, completed, descriptor_at, place_for}
 use Rattle.ibos_mediate.proofs.CompleteChange.{completed-then, its_open}
 use Rattle.ibos_mediate.proofs.DeviceChange.{transmitted-completes}
 use Rattle.ibos_mediate.proofs.FrameLemmas.{IsLeft, arrivals-left, outgoing-at, received-left}

@@ -1,13 +1,7 @@
 -- What is true of a new mediator, and of a ring that may be posted to.
 use Rattle.std.proofs.Common.{◌≡◌, ℕ, zero, suc, ◌+◌, ◌-◌, ◌<◌, None, refl, arith, replicate}
-use Rattle.std.specs.Prelude.{slice_index}
-use Rattle.ibos_pool.specs.declared.name.Ring.{Ring}
-use Rattle.ibos_pool.specs.Sizes.{receive_buffers}
+use Rattle.ibos_mediate.proofs.Words.{AreTurns, IsBalanced, Ring, RingView, receive_buffers, ring_size, slice_index, slot_rule}
 use Rattle.ibos_nic.proofs.RuleLemmas.{slot-is}
-use Rattle.ibos_nic.specs.Registers.{ring_size}
-use Rattle.ibos_nic.specs.Rules.{slot_rule}
-use Rattle.ibos_mediate.specs.Mediated.{IsBalanced, RingView}
-use Rattle.ibos_mediate.specs.States.{AreTurns}
 
 -- a ring that may be posted to has room
 pub room-from_rule : (ring : Ring) (r : RingView) (slot : ℕ) → IsBalanced r → slot_rule ring r.values slot ≡ None → r.values.posted < r.values.taken + (ring_size - 1)

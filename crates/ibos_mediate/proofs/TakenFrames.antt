@@ -1,18 +1,7 @@
 -- A receive buffer that is taken back has the first frame that arrived, and a transmit buffer is the first to return.
 use Rattle.std.proofs.Common.{◌≡◌, ◌≢◌, ℕ, suc, ◌+◌, ◌-◌, ◌<◌, ◌≤◌, List, [], ◌∷◌, refl, sym, ◌∙◌, ap, subst, arith}
 use Rattle.std.proofs.lemmas.List.{get_or-set_other}
-use Rattle.std.specs.Prelude.{slice_index}
-use Rattle.ibos_pool.specs.declared.name.Name.{Name}
-use Rattle.ibos_pool.specs.declared.name.Ring.{Ring}
-use Rattle.ibos_pool.specs.declared.name.Ring.TheVariants.{Receive, Transmit}
-use Rattle.ibos_pool.specs.Memory.{Memory, bytes_at}
-use Rattle.ibos_pool.specs.Names.{Held, Names}
-use Rattle.ibos_pool.specs.Places.{address_of}
-use Rattle.ibos_nic.specs.Device.{tx_at}
-use Rattle.ibos_nic.specs.Rules.{with_turn}
-use Rattle.ibos_mediate.specs.Frames.{Arrival, after_bell, arrival_at, arrivals, handle_for, handle_of, outgoing_bytes, queue, received_bytes, received_frames, returns, take_back, taken_back, unsent_frames}
-use Rattle.ibos_mediate.specs.Mediated.{Mediated, RingView, ring_of}
-use Rattle.ibos_mediate.specs.Relation.{AreOwned, IsInMemory, IsOpen, completed, descriptor_at, descriptor_of, held_for, length_in, place_for}
+use Rattle.ibos_mediate.proofs.Words.{AreOwned, Arrival, Held, IsInMemory, IsOpen, Mediated, Memory, Name, Names, Receive, Ring, RingView, Transmit, address_of, after_bell, arrival_at, arrivals, bytes_at, completed, descriptor_at, descriptor_of, handle_for, handle_of, held_for, length_in, outgoing_bytes, place_for, queue, received_bytes, received_frames, returns, ring_of, slice_index, take_back, taken_back, tx_at, unsent_frames, with_turn}
 use Rattle.ibos_mediate.proofs.ApartLemmas.{names-apart}
 use Rattle.ibos_mediate.proofs.CountLemmas.{completed-same, completed-taken}
 use Rattle.ibos_mediate.proofs.FrameLemmas.{IsLeft, IsSame, arrivals-left, received-left, unsent-left, unsent-still}

@@ -1,7 +1,6 @@
 use Rattle.std.proofs.Common.{ap}
-use Rattle.circular_buffer.specs.Buffer.{Buffer}
+use Rattle.ibos_mediate.proofs.Words.{Buffer, Held}
 use Rattle.ibos_pool.proofs.GivingLemmas.{closing-popped}
-use Rattle.ibos_pool.specs.Names.{Held}
 use Rattle.ibos_mediate.proofs.closing.give_all.Goals as goal
 
 pub loop-away-preserved : goal.loop-away-preserved

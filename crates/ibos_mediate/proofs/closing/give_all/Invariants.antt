@@ -1,4 +1,4 @@
-use Rattle.std.specs.Prelude.{length}
+use Rattle.ibos_mediate.proofs.Words.{length}
 use Rattle.ibos_pool.proofs.GivingLemmas.{IsClosing}
 use Rattle.ibos_mediate.proofs.closing.give_all.Given as goal
 

@@ -1,8 +1,5 @@
 use Rattle.std.proofs.Common.{ap, ◌-◌}
-use Rattle.ibos_mediate.specs.Frames.{arrival_at, take_back}
-use Rattle.ibos_mediate.specs.Mediated.{ring_of}
-use Rattle.ibos_pool.specs.declared.name.Ring.TheVariants.{Receive, Transmit}
-use Rattle.ibos_mediate.specs.Relation.{completed, held_for}
+use Rattle.ibos_mediate.proofs.Words.{Receive, Transmit, arrival_at, completed, held_for, ring_of, take_back}
 use Rattle.ibos_mediate.proofs.QueueLemmas.{queue-ends}
 use Rattle.ibos_mediate.proofs.CountLemmas.{completed-more, completed-same}
 use Rattle.ibos_mediate.proofs.OtherFrames.{descriptors-left}

@@ -1,7 +1,5 @@
 use Rattle.std.proofs.Common.{◌≤◌, ◌-◌, sym, arith}
-use Rattle.ibos_pool.specs.declared.name.Ring.TheVariants.{Receive, Transmit}
-use Rattle.ibos_mediate.specs.Frames.{Arrival, arrival_at, outgoing_bytes, received_bytes}
-use Rattle.ibos_mediate.specs.Relation.{completed, held_for}
+use Rattle.ibos_mediate.proofs.Words.{Arrival, Receive, Transmit, arrival_at, completed, held_for, outgoing_bytes, received_bytes}
 use Rattle.ibos_mediate.proofs.CountLemmas.{completed-high, completed-low}
 use Rattle.ibos_mediate.proofs.QueueLemmas.{map-queue, queue-counts}
 use Rattle.ibos_mediate.proofs.frames.frames_are_counted.Goals as goal

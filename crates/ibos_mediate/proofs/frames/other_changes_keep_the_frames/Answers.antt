@@ -1,7 +1,5 @@
 use Rattle.std.proofs.Common.{ap, ◌-◌}
-use Rattle.ibos_pool.specs.declared.name.Ring.TheVariants.{Receive, Transmit}
-use Rattle.ibos_mediate.specs.Frames.{queue}
-use Rattle.ibos_mediate.specs.Relation.{held_for}
+use Rattle.ibos_mediate.proofs.Words.{Receive, Transmit, held_for, queue}
 use Rattle.ibos_mediate.proofs.CountLemmas.{completed-same}
 use Rattle.ibos_mediate.proofs.FrameLemmas.{arrivals-left, received-left, unsent-left}
 use Rattle.ibos_mediate.proofs.OtherFrames.{descriptors-left, others-left, written-told}

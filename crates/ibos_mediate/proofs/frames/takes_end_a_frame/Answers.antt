@@ -1,5 +1,5 @@
 use Rattle.std.proofs.Common.{◌≡◌, ◌≢◌, ℕ, ◌<◌, ◌≤◌, arith}
-use Rattle.ibos_pool.specs.declared.name.Ring.TheVariants.{Receive, Transmit}
+use Rattle.ibos_mediate.proofs.Words.{Receive, Transmit}
 use Rattle.ibos_mediate.proofs.CountLemmas.{completed-more}
 use Rattle.ibos_mediate.proofs.FrameLemmas.{arrivals-left, received-left, unsent-left}
 use Rattle.ibos_mediate.proofs.TakenFrames.{all-left, arrivals-taken, received-taken, returns-taken, unsent-taken}

@@ -1,7 +1,5 @@
 use Rattle.std.proofs.Common.{◌∷◌, ap, ◌∙◌}
-use Rattle.ibos_pool.specs.declared.name.Ring.TheVariants.{Transmit}
-use Rattle.ibos_nic.specs.Device.{frame_at}
-use Rattle.ibos_mediate.specs.Frames.{unsent_frames}
+use Rattle.ibos_mediate.proofs.Words.{Transmit, frame_at, unsent_frames}
 use Rattle.ibos_mediate.proofs.DeviceChange.{head_at, sent-now}
 use Rattle.ibos_mediate.proofs.SentFrames.{arrivals-sent, received-sent, unsent-sent}
 use Rattle.ibos_mediate.proofs.frames.transmissions_end_a_frame.Goals as goal

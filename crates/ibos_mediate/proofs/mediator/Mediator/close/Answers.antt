@@ -1,9 +1,6 @@
 use Rattle.std.proofs.Common.{◌++◌, ◌≡◌, ap, sym, ◌∙◌, subst}
+use Rattle.ibos_mediate.proofs.Words.{AreAway, AreGiven, Held, Mediated, Receive}
 use Rattle.ibos_pool.proofs.GivingLemmas.{given-both, hands-closed}
-use Rattle.ibos_pool.specs.declared.name.Ring.TheVariants.{Receive}
-use Rattle.ibos_pool.specs.Hands.{AreAway, AreGiven}
-use Rattle.ibos_pool.specs.Names.{Held}
-use Rattle.ibos_mediate.specs.Mediated.{Mediated}
 use Rattle.ibos_mediate.proofs.AwayLemmas.{away-both, away-ring}
 use Rattle.ibos_mediate.proofs.mediator.Mediator.close.Goals as goal
 
