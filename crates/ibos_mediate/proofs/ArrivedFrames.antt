@@ -1,11 +1,11 @@
 -- A frame that is heard is the last of those received, and the device leaves every other buffer.
-use Rattle.std.proofs.Common.{◌≡◌, ◌≢◌, ℕ, ◌+◌, ◌-◌, ◌<◌, ◌≤◌, ◌⊎◌, List, [], ◌∷◌, ◌++◌, true, false, length, sym, ◌∙◌, ap, inl, inr, ⊎_elim, subst, refl, arith}
-use Rattle.ibos_mediate.proofs.Words.{Arrival, FitsRx, IsApart, IsInMemory, IsKept, IsOpen, IsPlaceIn, IsReceived, IsTrue, Mediated, Memory, Place, Receive, Ring, RxDesc, Transmit, address_of, arrival_at, arrivals, buffer_bytes, bytes_at, completed, descriptor_at, descriptor_of, handle_for, is_enabled, is_lent_at, place_for, received_bytes, received_frames, ring_base, ring_of, ring_room, ring_size, rx_bytes, rx_of, slice_index, unsent_frames}
+use Rattle.std.proofs.Common.{◌≡◌, ◌≢◌, ℕ, ◌+◌, ◌<◌, ◌≤◌, ◌⊎◌, List, [], ◌∷◌, ◌++◌, true, false, length, sym, ◌∙◌, ap, inr, subst, refl, arith}
+use Rattle.ibos_mediate.proofs.Words.{Arrival, FitsRx, IsApart, IsInMemory, IsKept, IsOpen, IsPlaceIn, IsReceived, IsTrue, Mediated, Memory, Place, Receive, Ring, RxDesc, Transmit, address_of, arrival_at, arrivals, buffer_bytes, bytes_at, completed, descriptor_at, handle_for, is_enabled, is_lent_at, place_for, received_bytes, received_frames, ring_base, ring_of, ring_room, ring_size, rx_bytes, rx_of, unsent_frames}
 use Rattle.ibos_nic.proofs.DeviceLemmas.{others-stay}
 use Rattle.ibos_nic.proofs.SlotLemmas.{slots-differ}
 use Rattle.ibos_mediate.proofs.CompleteChange.{completed-then, its_open}
 use Rattle.ibos_mediate.proofs.DeviceChange.{received-became, received-completes}
-use Rattle.ibos_mediate.proofs.FrameLemmas.{IsLeft, received-at, unsent-left}
+use Rattle.ibos_mediate.proofs.FrameLemmas.{received-at, unsent-left}
 use Rattle.ibos_mediate.proofs.QueueLemmas.{queue-grows}
 
 module _ (rx_back : (d : RxDesc) → FitsRx d → rx_of (rx_bytes d) ≡ d) (behind : (areas : ℕ) (ring : Ring) (p : Place) → IsPlaceIn areas p → ring_base ring + ring_room ≤ address_of p)

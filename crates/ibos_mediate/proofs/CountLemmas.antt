@@ -1,7 +1,7 @@
 -- How far the device is with a ring, after a change.
-use Rattle.std.proofs.Common.{◌≡◌, ◌≢◌, ℕ, suc, ◌+◌, ◌-◌, ◌<◌, ◌≤◌, List, length, sym, ◌∙◌, ap, inr, ⊎_elim, subst, refl, arith}
+use Rattle.std.proofs.Common.{◌≡◌, ◌≢◌, ℕ, suc, ◌+◌, ◌-◌, ◌<◌, ◌≤◌, List, length, ◌∙◌, ap, inr, ⊎_elim, subst, refl, arith}
 use Rattle.std.proofs.lemmas.Bool.{cases_lt}
-use Rattle.ibos_mediate.proofs.Words.{Held, IsInMemory, IsOpen, IsPosted, IsRingInMemory, Mediated, Memory, Place, Posts, Ring, RingView, bytes_at, changed, completed, descriptor_at, descriptor_bytes, descriptor_of, has_done, is_done, ring_of, ring_size}
+use Rattle.ibos_mediate.proofs.Words.{Held, IsInMemory, IsOpen, IsPosted, IsRingInMemory, Mediated, Memory, Place, Posts, Ring, RingView, bytes_at, changed, completed, descriptor_at, descriptor_bytes, descriptor_of, has_done, is_done, ring_of}
 use Rattle.ibos_nic.proofs.FirstLemmas.{first_not-behind, first_not-high, first_not-is, first_not-low, first_not-same}
 use Rattle.ibos_mediate.proofs.Keeps.{on_changed}
 use Rattle.ibos_mediate.proofs.PostChange.{descriptors-posted, posted}

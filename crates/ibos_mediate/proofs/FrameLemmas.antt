@@ -1,6 +1,6 @@
 -- What the rings have to tell stays where a change leaves descriptors, buffers and counts.
-use Rattle.std.proofs.Common.{◌≡◌, ◌≢◌, ℕ, ◌+◌, ◌-◌, ◌<◌, ◌≤◌, ◌⊎◌, List, [], ◌∷◌, length, sym, ◌∙◌, ap, subst, refl, arith}
-use Rattle.ibos_mediate.proofs.Words.{Arrival, Held, IsInMemory, IsOpen, Mediated, Memory, Receive, Ring, RingView, Transmit, address_of, arrival_at, arrivals, buffer_bytes, bytes_at, completed, descriptor_of, handle_for, handle_of, held_for, length_in, outgoing_bytes, place_for, queue, received_bytes, received_frames, ring_of, slice_index, tx_of, unsent_frames}
+use Rattle.std.proofs.Common.{◌≡◌, ℕ, ◌<◌, ◌≤◌, ◌∙◌, ap, refl, arith}
+use Rattle.ibos_mediate.proofs.Words.{Held, IsInMemory, IsOpen, Mediated, Memory, Receive, Ring, RingView, Transmit, address_of, arrival_at, arrivals, buffer_bytes, bytes_at, completed, descriptor_of, handle_for, handle_of, held_for, length_in, outgoing_bytes, place_for, received_bytes, received_frames, ring_of, tx_of, unsent_frames}
 use Rattle.ibos_mediate.proofs.CountLemmas.{completed-same}
 use Rattle.ibos_mediate.proofs.QueueLemmas.{queue-still}
 

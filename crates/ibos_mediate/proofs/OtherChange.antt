@@ -1,7 +1,7 @@
 -- How the relation begins, and what keeps it that is no call of the mediator or of the device.
-use Rattle.std.proofs.Common.{◌≡◌, ◌≢◌, ℕ, ◌+◌, ◌<◌, ◌≤◌, ◌⊎◌, ◌==◌, ◌&&◌, List, [], ◌∷◌, Bool, true, false, None, Some, cond, length, refl, sym, ◌∙◌, ap, inl, inr, ⊎_elim, subst, arith}
+use Rattle.std.proofs.Common.{◌≡◌, ◌≢◌, ℕ, ◌+◌, ◌<◌, ◌≤◌, ◌⊎◌, ◌==◌, ◌&&◌, List, [], Bool, true, false, None, Some, cond, length, refl, sym, ◌∙◌, ap, inl, inr, subst, arith}
 use Rattle.std.proofs.lemmas.Bool.Decides.{nat_tests}
-use Rattle.ibos_mediate.proofs.Words.{AreOwned, AreUnheldBut, Base, Control, Err, Filtered, Head, Heard, Held, High, IsAtDevice, IsClaimed, IsHeard, IsInMemory, IsInside, IsKept, IsLent, IsLoanFor, IsLoanOf, IsNameIn, IsOneToOne, IsOpen, IsPlaceIn, IsRingInMemory, IsTransmitted, IsWritten, Keeps, Length, LogEntry, Mediated, MediatesBut, Memory, NoMemory, Missed, Name, Names, Ok, OnHeard, OnSent, OnUnheard, OnUnsent, Part, Place, Rah0, Ral0, Receive, Reg, Registers, Result, Ring, RingPart, RingView, SameNames, SameRegisters, Status, Tail, Transmit, Verdict, address_of, after_write, bytes_at, completed, descriptor_bytes, held_for, is_done, is_lent_at, is_taken, max_areas, no_ring, part_of, place_of, receive_name, reg_of, reset, ring_base, ring_of, ring_room, ring_size, room_slots, same_name, slot_address, slot_at, slot_of, status, value_of}
+use Rattle.ibos_mediate.proofs.Words.{AreOwned, AreUnheldBut, Err, Filtered, Head, Heard, Held, IsAtDevice, IsClaimed, IsHeard, IsInMemory, IsInside, IsKept, IsLent, IsNameIn, IsOneToOne, IsOpen, IsPlaceIn, IsRingInMemory, IsTransmitted, IsWritten, Keeps, LogEntry, Mediated, MediatesBut, Memory, NoMemory, Missed, Name, Names, Ok, OnHeard, OnSent, OnUnheard, OnUnsent, Part, Place, Rah0, Ral0, Receive, Reg, Registers, Result, Ring, RingPart, RingView, SameNames, SameRegisters, Status, Transmit, Verdict, address_of, after_write, bytes_at, completed, descriptor_bytes, held_for, is_done, is_lent_at, is_taken, max_areas, no_ring, part_of, place_of, receive_name, reg_of, reset, ring_base, ring_of, ring_room, room_slots, same_name, slot_address, slot_at, slot_of, status, value_of}
 use Rattle.ibos_nic.proofs.PartLemmas.{no_part, part_of-reg_of}
 use Rattle.ibos_mediate.proofs.CountLemmas.{completed-same}
 use Rattle.ibos_nic.proofs.FirstLemmas.{first_not-none}

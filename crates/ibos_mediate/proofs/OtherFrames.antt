@@ -1,6 +1,6 @@
 -- What leaves the descriptors and the lent buffers leaves the frames, and so does a write to a register.
-use Rattle.std.proofs.Common.{◌≡◌, ℕ, ◌+◌, ◌<◌, ◌≤◌, List, Option, None, Some, take, refl, sym, ◌∙◌, ap, subst, arith}
-use Rattle.ibos_mediate.proofs.Words.{Base, Control, Head, High, IsInMemory, IsLent, Length, Mediated, Memory, Part, Place, Receive, Reg, Ring, RingPart, Tail, Transmit, Writes, address_of, after_writing, arrivals, buffer_at, buffer_bytes, bytes_at, changed, descriptor_of, part_of, received_frames, ring_of, ring_size, room_slots, slot_at, slot_of, unsent_frames, written_in}
+use Rattle.std.proofs.Common.{◌≡◌, ℕ, ◌<◌, ◌≤◌, Option, None, Some, take, refl, sym, ◌∙◌, ap, arith}
+use Rattle.ibos_mediate.proofs.Words.{Base, Control, Head, High, IsInMemory, IsLent, Length, Mediated, Memory, Part, Place, Receive, Reg, Ring, RingPart, Tail, Transmit, Writes, after_writing, arrivals, buffer_at, buffer_bytes, bytes_at, changed, descriptor_of, part_of, received_frames, ring_of, ring_size, room_slots, slot_at, slot_of, unsent_frames, written_in}
 use Rattle.ibos_nic.proofs.SlotLemmas.{slot-below}
 use Rattle.ibos_mediate.proofs.FrameLemmas.{IsLeft}
 

@@ -1,6 +1,6 @@
 -- A transmit buffer that is posted has the last frame to be sent, and no other frame changes.
-use Rattle.std.proofs.Common.{◌≡◌, ◌≢◌, ℕ, ◌+◌, ◌-◌, ◌^◌, ◌<◌, ◌≤◌, List, [], ◌∷◌, ◌++◌, length, refl, sym, ◌∙◌, ap, inr, subst, arith}
-use Rattle.ibos_mediate.proofs.Words.{FitsTx, Held, IsInMemory, IsKept, IsOpen, IsPlaceIn, IsPosted, IsRingInMemory, Mediated, Memory, Place, Posts, Receive, Ring, RingView, Transmit, TxDesc, address_of, arrivals, buffer_bytes, bytes_at, changed, completed, descriptor_at, descriptor_bytes, descriptor_of, held_for, outgoing_bytes, place_for, posted_tx, queue, received_frames, ring_base, ring_of, ring_room, ring_size, tx_at, tx_bytes, tx_of, unsent_frames}
+use Rattle.std.proofs.Common.{◌≡◌, ℕ, ◌+◌, ◌-◌, ◌<◌, ◌≤◌, List, [], ◌∷◌, ◌++◌, length, refl, ◌∙◌, ap, inr, subst, arith}
+use Rattle.ibos_mediate.proofs.Words.{FitsTx, Held, IsInMemory, IsKept, IsPlaceIn, IsPosted, IsRingInMemory, Mediated, Memory, Place, Posts, Receive, Ring, Transmit, TxDesc, address_of, arrivals, buffer_bytes, bytes_at, changed, completed, descriptor_at, descriptor_bytes, descriptor_of, outgoing_bytes, posted_tx, queue, received_frames, ring_base, ring_of, ring_room, ring_size, tx_at, tx_bytes, tx_of, unsent_frames}
 use Rattle.ibos_nic.proofs.SlotLemmas.{slot-below}
 use Rattle.ibos_mediate.proofs.CountLemmas.{completed-posted}
 use Rattle.ibos_pool.proofs.PlaceLemmas.{address-small}

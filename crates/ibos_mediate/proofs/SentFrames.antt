@@ -1,6 +1,6 @@
 -- A frame that is sent is the first of those to be sent.
-use Rattle.std.proofs.Common.{◌≡◌, ◌≢◌, ℕ, ◌+◌, ◌-◌, ◌<◌, ◌≤◌, List, [], ◌∷◌, length, sym, ◌∙◌, ap, inr, refl, arith}
-use Rattle.ibos_mediate.proofs.Words.{FitsTx, IsInMemory, IsOpen, IsPlaceIn, IsTransmitted, IsTrue, Mediated, Memory, Place, Receive, Ring, Transmit, TxDesc, address_of, arrivals, bytes_at, completed, descriptor_at, descriptor_bytes, frame_at, is_enabled, outgoing_bytes, place_for, queue, received_frames, ring_base, ring_of, ring_room, ring_size, transmitted, tx_at, tx_bytes, tx_of, unsent_frames}
+use Rattle.std.proofs.Common.{◌≡◌, ℕ, ◌+◌, ◌-◌, ◌<◌, ◌≤◌, ◌∷◌, length, sym, ◌∙◌, ap, inr, refl, arith}
+use Rattle.ibos_mediate.proofs.Words.{FitsTx, IsInMemory, IsPlaceIn, IsTransmitted, IsTrue, Mediated, Memory, Place, Receive, Ring, Transmit, TxDesc, address_of, arrivals, bytes_at, completed, descriptor_at, descriptor_bytes, frame_at, is_enabled, outgoing_bytes, queue, received_frames, ring_base, ring_room, ring_size, transmitted, tx_at, tx_bytes, tx_of, unsent_frames}
 use Rattle.ibos_nic.proofs.SlotLemmas.{slot-below, slots-differ}
 use Rattle.ibos_mediate.proofs.CompleteChange.{completed-then, its_open}
 use Rattle.ibos_mediate.proofs.DeviceChange.{transmitted-completes}

@@ -1,4 +1,3 @@
-use Rattle.std.proofs.Common.{◌≡◌, ◌≢◌, ℕ, ◌<◌, ◌≤◌, arith}
 use Rattle.ibos_mediate.proofs.Words.{Receive, Transmit}
 use Rattle.ibos_mediate.proofs.CountLemmas.{completed-more}
 use Rattle.ibos_mediate.proofs.FrameLemmas.{arrivals-left, received-left, unsent-left}

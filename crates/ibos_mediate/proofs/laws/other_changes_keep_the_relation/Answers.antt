@@ -1,4 +1,3 @@
-use Rattle.std.proofs.Common.{◌≡◌, ◌≤◌, arith}
 use Rattle.ibos_mediate.proofs.OtherChange.{device-addressed, device-else, keeps-else, keeps-written, memory-else}
 use Rattle.ibos_mediate.proofs.RegisterChange.{unheld-else}
 use Rattle.ibos_mediate.proofs.laws.other_changes_keep_the_relation.Goals as goal

@@ -1,4 +1,3 @@
-use Rattle.std.proofs.Common.{◌≡◌}
 use Rattle.ibos_mediate.proofs.OtherChange.{begins, device-begins, memory-begins, owned-begins, unheld-begins}
 use Rattle.ibos_mediate.proofs.laws.relation_begins.Goals as goal
 

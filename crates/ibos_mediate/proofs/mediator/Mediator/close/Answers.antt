@@ -1,5 +1,5 @@
 use Rattle.std.proofs.Common.{◌++◌, ◌≡◌, ap, sym, ◌∙◌, subst}
-use Rattle.ibos_mediate.proofs.Words.{AreAway, AreGiven, Held, Mediated, Receive}
+use Rattle.ibos_mediate.proofs.Words.{AreAway, AreGiven, Mediated, Receive}
 use Rattle.ibos_pool.proofs.GivingLemmas.{given-both, hands-closed}
 use Rattle.ibos_mediate.proofs.AwayLemmas.{away-both, away-ring}
 use Rattle.ibos_mediate.proofs.mediator.Mediator.close.Goals as goal
