@@ -3,9 +3,8 @@ use Rattle.std.proofs.Common.{◌≡◌, ◌≢◌, ℕ, ◌+◌, ◌<◌, ◌�
 use Rattle.std.proofs.lemmas.Bool.Decides.{nat_tests}
 use Rattle.ibos_mediate.proofs.Words.{AreOwned, AreUnheldBut, Err, Filtered, Head, Heard, Held, IsAtDevice, IsClaimed, IsHeard, IsInMemory, IsInside, IsKept, IsLent, IsNameIn, IsOneToOne, IsOpen, IsPlaceIn, IsRingInMemory, IsTransmitted, IsWritten, Keeps, LogEntry, Mediated, MediatesBut, Memory, NoMemory, Missed, Name, Names, Ok, OnHeard, OnSent, OnUnheard, OnUnsent, Part, Place, Rah0, Ral0, Receive, Reg, Registers, Result, Ring, RingPart, RingView, SameNames, SameRegisters, Status, Transmit, Verdict, address_of, after_write, bytes_at, completed, descriptor_bytes, held_for, is_done, is_lent_at, is_taken, max_areas, no_ring, part_of, place_of, receive_name, reg_of, reset, ring_base, ring_of, ring_room, room_slots, same_name, slot_address, slot_at, slot_of, status, value_of}
 use Rattle.ibos_nic.proofs.PartLemmas.{no_part, part_of-reg_of}
-use Rattle.ibos_mediate.proofs.CountLemmas.{completed-same}
+use Rattle.ibos_mediate.proofs.FrameLemmas.{completed-same, descriptors-left}
 use Rattle.ibos_nic.proofs.FirstLemmas.{first_not-none}
-use Rattle.ibos_mediate.proofs.OtherFrames.{descriptors-left}
 use Rattle.ibos_mediate.proofs.PostChange.{owned-claimed}
 use Rattle.ibos_mediate.proofs.RegisterChange.{device-same, keeps-still, unheld-else}
 use Rattle.ibos_mediate.proofs.Rings.{memory-from, ring-stays}

@@ -2,12 +2,10 @@
 use Rattle.std.proofs.Common.{◌≡◌, ℕ, ◌+◌, ◌-◌, ◌<◌, ◌≤◌, List, [], ◌∷◌, ◌++◌, length, refl, ◌∙◌, ap, inr, subst, arith}
 use Rattle.ibos_mediate.proofs.Words.{FitsTx, Held, IsInMemory, IsKept, IsPlaceIn, IsPosted, IsRingInMemory, Mediated, Memory, Place, Posts, Receive, Ring, Transmit, TxDesc, address_of, arrivals, buffer_bytes, bytes_at, changed, completed, descriptor_at, descriptor_bytes, descriptor_of, outgoing_bytes, posted_tx, queue, received_frames, ring_base, ring_of, ring_room, ring_size, tx_at, tx_bytes, tx_of, unsent_frames}
 use Rattle.ibos_nic.proofs.SlotLemmas.{slot-below}
-use Rattle.ibos_mediate.proofs.CountLemmas.{completed-posted}
+use Rattle.ibos_mediate.proofs.FrameLemmas.{completed-posted, IsLeft, IsSame, arrivals-left, arrivals-still, outgoing-at, received-left, received-still, unsent-left, queue-grows}
 use Rattle.ibos_pool.proofs.PlaceLemmas.{address-small}
-use Rattle.ibos_mediate.proofs.FrameLemmas.{IsLeft, IsSame, arrivals-left, arrivals-still, outgoing-at, received-left, received-still, unsent-left}
-use Rattle.ibos_mediate.proofs.Keeps.{on_changed}
+use Rattle.ibos_mediate.proofs.Rings.{on_changed}
 use Rattle.ibos_mediate.proofs.PostChange.{descriptors-posted, held-before, held-new, posted}
-use Rattle.ibos_mediate.proofs.QueueLemmas.{queue-grows}
 
 module _ (ring : Ring) (behind : (areas : ℕ) (ring : Ring) (p : Place) → IsPlaceIn areas p → ring_base ring + ring_room ≤ address_of p)
     (m : Mediated) (mem mem' : Memory) (h : Held) (bytes : List ℕ) (size : length bytes ≡ descriptor_bytes) (in_old : IsInMemory m mem) (in_new : IsInMemory (changed ring (Posts h) m) mem')

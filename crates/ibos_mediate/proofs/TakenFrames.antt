@@ -2,10 +2,8 @@
 use Rattle.std.proofs.Common.{◌≡◌, ◌≢◌, ℕ, suc, ◌+◌, ◌-◌, ◌<◌, ◌∷◌, refl, sym, ◌∙◌, ap, arith}
 use Rattle.std.proofs.lemmas.List.{get_or-set_other}
 use Rattle.ibos_mediate.proofs.Words.{AreOwned, Held, IsInMemory, IsOpen, Mediated, Memory, Name, Names, Receive, Ring, RingView, Transmit, address_of, after_bell, arrival_at, arrivals, bytes_at, completed, descriptor_of, handle_for, handle_of, held_for, length_in, place_for, received_bytes, received_frames, returns, ring_of, take_back, taken_back, unsent_frames, with_turn}
-use Rattle.ibos_mediate.proofs.ApartLemmas.{names-apart}
-use Rattle.ibos_mediate.proofs.CountLemmas.{completed-taken}
-use Rattle.ibos_mediate.proofs.FrameLemmas.{IsLeft, unsent-still}
-use Rattle.ibos_mediate.proofs.QueueLemmas.{queue-shrinks}
+use Rattle.ibos_mediate.proofs.Rings.{names-apart}
+use Rattle.ibos_mediate.proofs.FrameLemmas.{completed-taken, IsLeft, unsent-still, queue-shrinks}
 use Rattle.ibos_mediate.proofs.TakeChange.{held-after, taken}
 
 -- no byte changes

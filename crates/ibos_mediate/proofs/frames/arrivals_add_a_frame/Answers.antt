@@ -1,4 +1,4 @@
-use Rattle.ibos_mediate.proofs.ArrivedFrames.{arrivals-arrived, received-arrived, unsent-arrived}
+use Rattle.ibos_mediate.proofs.DeviceFrames.{arrivals-arrived, received-arrived, unsent-arrived}
 use Rattle.ibos_mediate.proofs.DeviceChange.{heard-now}
 use Rattle.ibos_mediate.proofs.frames.arrivals_add_a_frame.Goals as goal
 

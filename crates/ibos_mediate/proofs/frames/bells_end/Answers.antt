@@ -1,8 +1,6 @@
 use Rattle.std.proofs.Common.{ap, ◌-◌}
 use Rattle.ibos_mediate.proofs.Words.{Receive, Transmit, arrival_at, completed, held_for, ring_of, take_back}
-use Rattle.ibos_mediate.proofs.QueueLemmas.{queue-ends}
-use Rattle.ibos_mediate.proofs.CountLemmas.{completed-more, completed-same}
-use Rattle.ibos_mediate.proofs.OtherFrames.{descriptors-left}
+use Rattle.ibos_mediate.proofs.FrameLemmas.{queue-ends, completed-more, completed-same, descriptors-left}
 use Rattle.ibos_mediate.proofs.TakenFrames.{bell-ends, bell-goes_on}
 use Rattle.ibos_mediate.proofs.frames.bells_end.Goals as goal
 

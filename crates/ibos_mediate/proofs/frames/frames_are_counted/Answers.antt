@@ -1,7 +1,6 @@
 use Rattle.std.proofs.Common.{◌-◌, sym, arith}
 use Rattle.ibos_mediate.proofs.Words.{Arrival, Receive, Transmit, arrival_at, completed, held_for, outgoing_bytes, received_bytes}
-use Rattle.ibos_mediate.proofs.CountLemmas.{completed-high, completed-low}
-use Rattle.ibos_mediate.proofs.QueueLemmas.{map-queue, queue-counts}
+use Rattle.ibos_mediate.proofs.FrameLemmas.{completed-high, completed-low, map-queue, queue-counts}
 use Rattle.ibos_mediate.proofs.frames.frames_are_counted.Goals as goal
 
 pub returns : goal.returns

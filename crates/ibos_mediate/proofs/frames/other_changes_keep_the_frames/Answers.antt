@@ -1,8 +1,6 @@
 use Rattle.std.proofs.Common.{ap, ◌-◌}
 use Rattle.ibos_mediate.proofs.Words.{Receive, Transmit, held_for, queue}
-use Rattle.ibos_mediate.proofs.CountLemmas.{completed-same}
-use Rattle.ibos_mediate.proofs.FrameLemmas.{arrivals-left, received-left, unsent-left}
-use Rattle.ibos_mediate.proofs.OtherFrames.{descriptors-left, others-left, written-told}
+use Rattle.ibos_mediate.proofs.FrameLemmas.{completed-same, arrivals-left, received-left, unsent-left, descriptors-left, others-left, written-told}
 use Rattle.ibos_mediate.proofs.frames.other_changes_keep_the_frames.Goals as goal
 
 pub returns : goal.returns

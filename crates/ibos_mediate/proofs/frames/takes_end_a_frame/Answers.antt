@@ -1,6 +1,5 @@
 use Rattle.ibos_mediate.proofs.Words.{Receive, Transmit}
-use Rattle.ibos_mediate.proofs.CountLemmas.{completed-more}
-use Rattle.ibos_mediate.proofs.FrameLemmas.{arrivals-left, received-left, unsent-left}
+use Rattle.ibos_mediate.proofs.FrameLemmas.{completed-more, arrivals-left, received-left, unsent-left}
 use Rattle.ibos_mediate.proofs.TakenFrames.{all-left, arrivals-taken, received-taken, returns-taken, unsent-taken}
 use Rattle.ibos_mediate.proofs.frames.takes_end_a_frame.Goals as goal
 

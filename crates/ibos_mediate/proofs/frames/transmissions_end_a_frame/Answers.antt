@@ -1,7 +1,7 @@
 use Rattle.std.proofs.Common.{◌∷◌, ap, ◌∙◌}
 use Rattle.ibos_mediate.proofs.Words.{Transmit, frame_at, unsent_frames}
 use Rattle.ibos_mediate.proofs.DeviceChange.{head_at, sent-now}
-use Rattle.ibos_mediate.proofs.SentFrames.{arrivals-sent, received-sent, unsent-sent}
+use Rattle.ibos_mediate.proofs.DeviceFrames.{arrivals-sent, received-sent, unsent-sent}
 use Rattle.ibos_mediate.proofs.frames.transmissions_end_a_frame.Goals as goal
 
 pub returns : goal.returns

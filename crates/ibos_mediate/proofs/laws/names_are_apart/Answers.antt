@@ -1,4 +1,4 @@
-use Rattle.ibos_mediate.proofs.ApartLemmas.{names-apart}
+use Rattle.ibos_mediate.proofs.Rings.{names-apart}
 use Rattle.ibos_mediate.proofs.laws.names_are_apart.Goals as goal
 
 pub returns : goal.returns

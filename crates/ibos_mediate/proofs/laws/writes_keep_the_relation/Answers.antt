@@ -1,6 +1,6 @@
 use Rattle.std.proofs.Common.{[], refl}
 use Rattle.ibos_mediate.proofs.Words.{HasWritten, SameNames, after_writing}
-use Rattle.ibos_mediate.proofs.Keeps.{whole}
+use Rattle.ibos_mediate.proofs.Rings.{whole}
 use Rattle.ibos_mediate.proofs.RegisterChange.{may_write-register, owned-written, register-written}
 use Rattle.ibos_mediate.proofs.laws.writes_keep_the_relation.Goals as goal
 

@@ -1,12 +1,10 @@
--- A frame that is heard is the last of those received, and the device leaves every other buffer.
-use Rattle.std.proofs.Common.{◌≡◌, ◌≢◌, ℕ, ◌+◌, ◌<◌, ◌≤◌, ◌⊎◌, List, [], ◌∷◌, ◌++◌, true, false, length, sym, ◌∙◌, ap, inr, subst, refl, arith}
-use Rattle.ibos_mediate.proofs.Words.{Arrival, FitsRx, IsApart, IsInMemory, IsKept, IsOpen, IsPlaceIn, IsReceived, IsTrue, Mediated, Memory, Place, Receive, Ring, RxDesc, Transmit, address_of, arrival_at, arrivals, buffer_bytes, bytes_at, completed, descriptor_at, handle_for, is_enabled, is_lent_at, place_for, received_bytes, received_frames, ring_base, ring_of, ring_room, ring_size, rx_bytes, rx_of, unsent_frames}
+-- A frame that is heard is the last of those received, and one that is sent the first of those to be sent.
+use Rattle.std.proofs.Common.{◌≡◌, ◌≢◌, ℕ, ◌+◌, ◌<◌, ◌≤◌, ◌⊎◌, List, [], ◌∷◌, ◌++◌, true, false, length, sym, ◌∙◌, ap, inr, subst, refl, arith, ◌-◌}
+use Rattle.ibos_mediate.proofs.Words.{Arrival, FitsRx, IsApart, IsInMemory, IsKept, IsOpen, IsPlaceIn, IsReceived, IsTrue, Mediated, Memory, Place, Receive, Ring, RxDesc, Transmit, address_of, arrival_at, arrivals, buffer_bytes, bytes_at, completed, descriptor_at, handle_for, is_enabled, is_lent_at, place_for, received_bytes, received_frames, ring_base, ring_of, ring_room, ring_size, rx_bytes, rx_of, unsent_frames, FitsTx, IsTransmitted, TxDesc, descriptor_bytes, frame_at, outgoing_bytes, queue, transmitted, tx_at, tx_bytes, tx_of}
 use Rattle.ibos_nic.proofs.DeviceLemmas.{others-stay}
-use Rattle.ibos_nic.proofs.SlotLemmas.{slots-differ}
-use Rattle.ibos_mediate.proofs.CompleteChange.{completed-then, its_open}
-use Rattle.ibos_mediate.proofs.DeviceChange.{received-became, received-completes}
-use Rattle.ibos_mediate.proofs.FrameLemmas.{received-at, unsent-left}
-use Rattle.ibos_mediate.proofs.QueueLemmas.{queue-grows}
+use Rattle.ibos_nic.proofs.SlotLemmas.{slots-differ, slot-below}
+use Rattle.ibos_mediate.proofs.DeviceChange.{completed-then, its_open, received-became, received-completes, transmitted-completes}
+use Rattle.ibos_mediate.proofs.FrameLemmas.{received-at, unsent-left, queue-grows, IsLeft, arrivals-left, outgoing-at, received-left, queue-shrinks}
 
 module _ (rx_back : (d : RxDesc) → FitsRx d → rx_of (rx_bytes d) ≡ d) (behind : (areas : ℕ) (ring : Ring) (p : Place) → IsPlaceIn areas p → ring_base ring + ring_room ≤ address_of p)
     (buffers : (areas : ℕ) (p q : Place) → IsPlaceIn areas p → IsPlaceIn areas q → (p ≡ q) ⊎ IsApart (address_of p) buffer_bytes (address_of q) buffer_bytes)
@@ -80,3 +78,46 @@ module _ (rx_back : (d : RxDesc) → FitsRx d → rx_of (rx_bytes d) ≡ d) (beh
         descriptor = λ k is_open. change.others Transmit k (λ same. let clash : Transmit ≡ Receive = same in absurd (cc));
         bytes = λ k is_open. open-bytes Transmit k is_open (λ two. let clash : Transmit ≡ Receive = two.0 in cc);
       })
+
+module _ (tx_back : (d : TxDesc) → FitsTx d → tx_of (tx_bytes d) ≡ d) (tx_length : (d : TxDesc) → length (tx_bytes d) ≡ descriptor_bytes)
+    (behind : (areas : ℕ) (ring : Ring) (p : Place) → IsPlaceIn areas p → ring_base ring + ring_room ≤ address_of p)
+    (m : Mediated) (mem mem' : Memory) (in_memory : IsInMemory m mem) (on : IsTrue (is_enabled m.transmit.values.control)) (more : completed Transmit mem m.transmit < m.transmit.values.rung)
+    (sent : IsTransmitted mem mem' (descriptor_at Transmit (completed Transmit mem m.transmit))) where
+  -- every buffer stays
+  pub all-bytes : (p : Place) → IsPlaceIn (length mem) p → (n : ℕ) → bytes_at mem' (address_of p) n ≡ bytes_at mem (address_of p) n
+  all-bytes p place n =
+      let low = behind (length mem) Transmit p place in
+      let inside = slot-below ring_size (completed Transmit mem m.transmit) (omega arith) in
+      sent.others (address_of p) n (rw (tx_length (transmitted (tx_at mem (descriptor_at Transmit (completed Transmit mem m.transmit))))) (inr (omega arith)))
+
+  received-left' : IsLeft Receive m.receive mem mem'
+  received-left' =
+      let change = transmitted-completes m mem mem' in_memory tx_back tx_length more sent in
+      let ring = in_memory.ring Receive in
+      record {
+        descriptor = λ k is_open. change.others Receive k (λ same. let clash : Receive ≡ Transmit = same in absurd (cc));
+        bytes = λ k is_open n small. all-bytes _ (ring.each k is_open).lent.place n;
+      }
+
+  pub received-sent : received_frames mem' m.receive ≡ received_frames mem m.receive
+  received-sent = received-left m mem mem' in_memory received-left'
+
+  pub arrivals-sent : arrivals mem' m ≡ arrivals mem m
+  arrivals-sent = arrivals-left m mem mem' in_memory received-left'
+
+  pub unsent-sent : unsent_frames mem m.transmit ≡ frame_at mem (descriptor_at Transmit (completed Transmit mem m.transmit)) ∷ unsent_frames mem' m.transmit
+  unsent-sent =
+      let change = transmitted-completes m mem mem' in_memory tx_back tx_length more sent in
+      let ring = in_memory.ring Transmit in
+      let low = ring.taken in
+      let order = ring.balanced.posted in
+      let room = ring.balanced.room in
+      let is_open = its_open Transmit m mem mem' in_memory more change in
+      let named = (ring.each (completed Transmit mem m.transmit) is_open).descriptor.named in
+      let count = completed-then Transmit m mem mem' in_memory more change on Transmit in
+      queue-shrinks (outgoing_bytes mem m.transmit) (outgoing_bytes mem' m.transmit) (completed Transmit mem m.transmit) m.transmit.values.posted m.transmit.values.posted (omega arith) refl
+      (λ k from below. outgoing-at m mem mem' in_memory m.transmit k refl (change.others Transmit k (λ e. slots-differ ring_size k (completed Transmit mem m.transmit) (λ e. omega arith) (omega arith) (omega arith)))
+      (λ n small. all-bytes _ (ring.each k (omega arith, below)).lent.place n) (omega arith) below)
+      ∙ ap (λ bs. bs ∷ queue (outgoing_bytes mem' m.transmit) (completed Transmit mem m.transmit + 1) (m.transmit.values.posted - (completed Transmit mem m.transmit + 1)))
+      (ap (λ at. bytes_at mem at (tx_at mem (descriptor_at Transmit (completed Transmit mem m.transmit))).length) (sym named))
+      ∙ ap (λ c. frame_at mem (descriptor_at Transmit (completed Transmit mem m.transmit)) ∷ queue (outgoing_bytes mem' m.transmit) c (m.transmit.values.posted - c)) (sym count)
