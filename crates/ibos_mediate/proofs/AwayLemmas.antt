@@ -1,7 +1,7 @@
 -- The buffers that the rings hold are away.
 use Rattle.std.proofs.Common.{◌≡◌, ℕ, ◌+◌, ◌-◌, ◌<◌, List, ◌++◌, length, sym, ◌∙◌, ap, subst, arith}
-use Rattle.ibos_mediate.proofs.Words.{AreAway, AreOwned, Held, IsInMemory, IsLent, IsLoanOf, IsOpen, Mediated, Memory, Names, Receive, Ring, Transmit, no_buffer, ring_of, slice_index_or}
-use Rattle.ibos_pool.proofs.GivingLemmas.{away-append, away-each, not_placed}
+use Rattle.ibos_mediate.proofs.Words.{AreGiven, AreAway, AreOwned, Held, IsInMemory, IsLent, IsLoanOf, IsOpen, Mediated, Memory, Names, Receive, Ring, Transmit, no_buffer, ring_of, slice_index_or}
+use Rattle.ibos_pool.proofs.GivingLemmas.{away-append, away-each, given-both, not_placed}
 
 abbrev buffer_in : List Held → ℕ → Held
 buffer_in held k = slice_index_or held k no_buffer
@@ -34,3 +34,8 @@ module _ (m : Mediated) (mem : Memory) (names : Names) (memory : IsInMemory m me
   pub away-both : AreAway names mem (m.receive.held ++ m.transmit.held)
   away-both = away-append names mem m.receive.held m.transmit.held (away-ring Receive) (away-ring Transmit)
       (λ k below. not_placed _ m.transmit.held (λ j below' same. let clash : Receive ≡ Transmit = (apart Receive Transmit k j below below' same).0 in cc))
+
+-- both lists were given, one after the other
+pub given-lists : (xs ys xs' ys' : List Held) (names names' names'' : Names) (mem mem' mem'' : Memory) → xs ≡ xs' → ys ≡ ys' → AreGiven xs names names' mem mem' → AreGiven ys names' names'' mem' mem''
+    → AreGiven (xs' ++ ys') names names'' mem mem''
+given-lists xs ys xs' ys' names names' names'' mem mem' mem'' is is' one two = given-both xs' ys' names names' names'' mem mem' mem'' (subst (λ zs. AreGiven zs names names' mem mem') is one) (subst (λ zs. AreGiven zs names' names'' mem' mem'') is' two)

@@ -29,7 +29,7 @@ pub use Rattle.ibos_nic.specs.declared.part.Part.TheVariants.{Base, Control, Hea
 pub use Rattle.ibos_nic.specs.declared.part.RingPart.{RingPart}
 pub use Rattle.ibos_nic.specs.declared.reg.Reg.{Reg}
 pub use Rattle.ibos_nic.specs.declared.reg.Reg.TheVariants.{Icr, Imc, Ims, Mpc, Rah0, Ral0, Rctl, Rdbah, Rdbal, Rdh, Rdlen, Rdt, Status, Tctl, Tdbah, Tdbal, Tdh, Tdlen, Tdt}
-pub use Rattle.ibos_pool.specs.Hands.{AreAway, AreExchanged, AreGiven, has_name, no_buffer}
+pub use Rattle.ibos_pool.specs.Hands.{AreAtHand, AreAway, AreExchanged, AreGiven, has_name, no_buffer}
 pub use Rattle.ibos_pool.specs.Memory.{IsKept, IsLent, IsMarked, IsWritten, Memory, buffer_at, bytes_at, is_lent_at, slot_at}
 pub use Rattle.ibos_pool.specs.Names.{Held, IsClaimed, IsLoanOf, IsNameIn, IsOneToOne, Names, is_taken, place_of, same_name}
 pub use Rattle.ibos_pool.specs.Places.{IsApart, IsInside, IsPlaceIn, address_of, buffers_of, ring_base, same_place, slot_address}

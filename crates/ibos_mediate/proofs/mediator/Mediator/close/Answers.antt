@@ -1,7 +1,7 @@
 use Rattle.std.proofs.Common.{◌++◌, ◌≡◌, ap, sym, ◌∙◌, subst}
 use Rattle.ibos_mediate.proofs.Words.{AreAway, AreGiven, Mediated, Receive}
-use Rattle.ibos_pool.proofs.GivingLemmas.{given-both, hands-closed}
-use Rattle.ibos_mediate.proofs.AwayLemmas.{away-both, away-ring}
+use Rattle.ibos_pool.proofs.GivingLemmas.{hands-closed}
+use Rattle.ibos_mediate.proofs.AwayLemmas.{away-both, away-ring, given-lists}
 use Rattle.ibos_mediate.proofs.mediator.Mediator.close.Goals as goal
 
 pub give_all-requires : goal.give_all-requires
@@ -19,16 +19,12 @@ give_all-requires-2 c =
 
 pub returns-clause-given : goal.returns-clause-given
 returns-clause-given c =
-    let receive : c.into_held.result.items ≡ c.args.self.receive.held = c.into_held.ensures ∙ ap (λ (m : Mediated). m.receive.held) c.self.view_is in
-    let transmit : c.into_held-2.result.items ≡ c.args.self.transmit.held = c.into_held-2.ensures ∙ ap (λ (m : Mediated). m.transmit.held) c.self.view_is in
-    let one = subst (λ xs. AreGiven xs c.args.pool.now c.give_all.new.pool c.args.mem.now c.give_all.new.mem) receive c.give_all.ensures.given in
-    let two = subst (λ xs. AreGiven xs c.give_all.new.pool c.give_all-2.new.pool c.give_all.new.mem c.give_all-2.new.mem) transmit c.give_all-2.ensures.given in
-    given-both _ _ _ _ _ _ _ _ one two
+    let receive = c.into_held.ensures ∙ ap (λ (m : Mediated). m.receive.held) c.self.view_is in
+    let transmit = c.into_held-2.ensures ∙ ap (λ (m : Mediated). m.transmit.held) c.self.view_is in
+    given-lists _ _ _ _ _ _ _ _ _ _ receive transmit c.give_all.ensures.given c.give_all-2.ensures.given
 
 pub returns-clause-hands : goal.returns-clause-hands
-returns-clause-hands c =
-    let receive : c.into_held.result.items ≡ c.args.self.receive.held = c.into_held.ensures ∙ ap (λ (m : Mediated). m.receive.held) c.self.view_is in
-    let transmit : c.into_held-2.result.items ≡ c.args.self.transmit.held = c.into_held-2.ensures ∙ ap (λ (m : Mediated). m.transmit.held) c.self.view_is in
-    let one = subst (λ xs. AreGiven xs c.args.pool.now c.give_all.new.pool c.args.mem.now c.give_all.new.mem) receive c.give_all.ensures.given in
-    let two = subst (λ xs. AreGiven xs c.give_all.new.pool c.give_all-2.new.pool c.give_all.new.mem c.give_all-2.new.mem) transmit c.give_all-2.ensures.given in
-    λ held. hands-closed _ _ _ _ (c.args.self.receive.held ++ c.args.self.transmit.held) held (away-both c.args.self c.args.mem.now c.args.pool.now c.requires.memory c.requires.owned) (given-both _ _ _ _ _ _ _ _ one two)
+returns-clause-hands c = λ held.
+    let receive = c.into_held.ensures ∙ ap (λ (m : Mediated). m.receive.held) c.self.view_is in
+    let transmit = c.into_held-2.ensures ∙ ap (λ (m : Mediated). m.transmit.held) c.self.view_is in
+    hands-closed _ _ _ _ _ held (away-both c.args.self c.args.mem.now c.args.pool.now c.requires.memory c.requires.owned) (given-lists _ _ _ _ _ _ _ _ _ _ receive transmit c.give_all.ensures.given c.give_all-2.ensures.given)
