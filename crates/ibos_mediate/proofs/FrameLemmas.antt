@@ -1,7 +1,7 @@
 -- What the rings have to tell stays where a change leaves descriptors, buffers and counts.
 use Rattle.std.proofs.Common.{◌≡◌, ℕ, zero, suc, ◌+◌, ◌-◌, ◌<◌, ◌≤◌, [], ◌∷◌, ◌++◌, length, map, refl, sym, ◌∙◌, ap, arith, ◌≢◌, List, inr, ⊎_elim, subst, Option, None, Some, take}
 use Rattle.std.proofs.lemmas.List.FromFn.{length-map-range_with_len, map-range_with_len_more}
-use Rattle.ibos_mediate.proofs.Words.{queue, Held, IsInMemory, IsOpen, IsPosted, IsRingInMemory, Mediated, Memory, Place, Posts, Ring, RingView, bytes_at, changed, completed, descriptor_at, descriptor_bytes, descriptor_of, has_done, is_done, ring_of, Receive, Transmit, address_of, arrival_at, arrivals, buffer_bytes, handle_for, handle_of, held_for, length_in, outgoing_bytes, place_for, received_bytes, received_frames, tx_of, unsent_frames, Base, Control, Head, High, IsLent, Length, Part, Reg, RingPart, Tail, Writes, after_writing, buffer_at, part_of, ring_size, room_slots, slot_at, slot_of, written_in}
+use Rattle.ibos_mediate.proofs.Words.{queue, Held, IsInMemory, IsOpen, IsPosted, IsRingInMemory, Mediated, Memory, Place, Posts, Ring, RingView, bytes_at, changed, completed, descriptor_at, descriptor_bytes, descriptor_of, has_done, is_done, ring_of, Receive, Transmit, address_of, arrival_at, arrivals, buffer_bytes, handle_for, handle_of, held_for, length_in, outgoing_bytes, place_for, received_bytes, received_frames, tx_of, unsent_frames, Base, IsLent, Part, Reg, RingPart, Writes, after_writing, buffer_at, part_of, ring_size, room_slots, slot_at, slot_of, written_in}
 use Rattle.std.proofs.lemmas.Bool.{cases_lt}
 use Rattle.ibos_nic.proofs.FirstLemmas.{first_not-behind, first_not-high, first_not-is, first_not-low, first_not-same}
 use Rattle.ibos_mediate.proofs.Rings.{on_changed, undone}

@@ -1,9 +1,8 @@
 -- A write, a read and a post break no rule exactly where the driver may make them.
-use Rattle.std.proofs.Common.{◌≡◌, ◌≢◌, ℕ, ◌+◌, ◌-◌, ◌%◌, ◌^◌, ◌<◌, ◌≤◌, ◌⊎◌, ◌==◌, ◌&&◌, ◌||◌, List, Bool, true, false, not, Option, None, Some, refl, sym, ◌∙◌, ap, inl, inr, ⊎_elim, subst, cond, arith}
+use Rattle.std.proofs.Common.{◌≡◌, ◌≢◌, ℕ, ◌-◌, ◌%◌, ◌^◌, ◌<◌, ◌≤◌, ◌⊎◌, ◌==◌, ◌&&◌, ◌||◌, List, Bool, true, false, not, Option, None, Some, refl, sym, ◌∙◌, ap, inl, inr, ⊎_elim, subst, cond, arith}
 use Rattle.std.proofs.lemmas.Bool.{cases_lt}
 use Rattle.std.proofs.lemmas.Bool.Decides.{nat_tests}
 use Rattle.std.proofs.lemmas.Nat.{and_assoc}
-use Rattle.std.specs.List.{list_any}
 use Rattle.std.specs.Option.{option_or}
 use Rattle.std.specs.Prelude.{◌↔◌, IsTrue, bit_and, nat_lt, slice_index}
 use Rattle.ibos_kinds.specs.declared.names.Handle.{Handle}
@@ -12,7 +11,6 @@ use Rattle.ibos_kinds.specs.declared.rule.Rule.TheVariants.{M2, M3, M4, M5, M6, 
 use Rattle.ibos_pool.specs.declared.name.Name.{Name}
 use Rattle.ibos_pool.specs.declared.name.Ring.{Ring}
 use Rattle.ibos_pool.specs.declared.name.Ring.TheVariants.{Receive, Transmit}
-use Rattle.ibos_pool.specs.Names.{same_name}
 use Rattle.ibos_pool.specs.Places.{ring_base}
 use Rattle.ibos_pool.specs.Sizes.{receive_buffers}
 use Rattle.ibos_nic.specs.declared.part.Part.{Part}
@@ -25,7 +23,7 @@ use Rattle.ibos_nic.specs.Parts.{part_of}
 use Rattle.ibos_nic.specs.Permits.{IsConfigured, IsEnabling, MayPost, MayPostReceive, MayWrite, MayWriteIn, MayWritePart}
 use Rattle.ibos_nic.specs.Registers.{is_enabled, ring_length, ring_size}
 use Rattle.ibos_nic.specs.Rings.{RingValues, rung_count}
-use Rattle.ibos_nic.specs.Rules.{is_after_enable, is_beyond_posted, is_configured, is_enabling, is_newest, is_unconfigured, is_value, mask_rule, part_rule, read_rule_of, receive_name, receive_rule, rule_in, slot_rule, write_rule_of}
+use Rattle.ibos_nic.specs.Rules.{is_after_enable, is_beyond_posted, is_configured, is_enabling, is_newest, is_unconfigured, is_value, part_rule, read_rule_of, receive_rule, rule_in, slot_rule, write_rule_of}
 
 -- a chain of tests passes where each does
 tests_pass : (b c d e : Bool) → cond (not b) (Some M2) (cond c (Some M3) (cond d (Some M8) (cond e (Some M4) None))) ≡ None
@@ -142,21 +140,20 @@ pass-from_may ring v Tail value may =
     not_past a b le = grind (arith, nat_tests)
 pass-from_may ring v Control value (inl (none, off)) =
     (or_right (is_enabling ring value) (value == 0) (number' value 0 none), rw off refl, rw none refl, refl)
-pass-from_may ring v Control value (inr (is, set)) =
-    (
-      or_left (is_enabling ring value) (value == 0) (enabling-from ring value is),
-      none_of (is_enabled v.control) (value == 0) (differ' value 0 (enabling-some ring value is)),
-      none_of (is_enabled value) (not (is_configured ring v)) (rw (configured-from ring v set) refl),
-      refl,
-    )
+pass-from_may ring v Control value (inr (is, set)) = (
+  or_left (is_enabling ring value) (value == 0) (enabling-from ring value is),
+  none_of (is_enabled v.control) (value == 0) (differ' value 0 (enabling-some ring value is)),
+  none_of (is_enabled value) (not (is_configured ring v)) (rw (configured-from ring v set) refl),
+  refl,
+)
 
 pub part-is : (ring : Ring) (v : RingValues) (part : Part) (value : ℕ) → part_rule ring v part value ≡ None ↔ MayWritePart ring v part value
 part-is ring v part value = (
-    λ none.
-    let pass = tests_pass (is_value ring part value) (is_after_enable v part value) (is_unconfigured ring v part value) (is_beyond_posted v part value) none in
-    may-from_tests ring v part value pass.0 pass.1 pass.2 pass.3,
-    λ may. let pass = pass-from_may ring v part value may in rw (pass.0, pass.1, pass.2, pass.3) refl,
-  )
+  λ none.
+      let pass = tests_pass (is_value ring part value) (is_after_enable v part value) (is_unconfigured ring v part value) (is_beyond_posted v part value) none in
+      may-from_tests ring v part value pass.0 pass.1 pass.2 pass.3,
+  λ may. let pass = pass-from_may ring v part value may in rw (pass.0, pass.1, pass.2, pass.3) refl,
+)
 
 mask : (value : ℕ) → cond (nat_lt value (2 ^ cause_bits)) None (Some M2) ≡ None ↔ (value < 2 ^ cause_bits)
 mask value = (λ none. below value (2 ^ cause_bits) none, λ small. let test : nat_lt value (2 ^ cause_bits) ≡ true = grind (arith, nat_tests) in rw test refl)
@@ -188,13 +185,13 @@ slot_tests false b c none = absurd (cc)
 
 pub slot-is : (ring : Ring) (v : RingValues) (slot : ℕ) → slot_rule ring v slot ≡ None ↔ MayPost ring v slot
 slot-is ring v slot = (
-    λ none.
-    let pass = slot_tests (is_configured ring v) (v.posted - v.taken == ring_size - 1) (slot == v.posted % ring_size) none in
-    record { configured = configured-is ring v pass.0; room = differ _ _ pass.1; next = number _ _ pass.2 },
-    λ may.
-    let room : (v.posted - v.taken == ring_size - 1) ≡ false = differ' _ _ may.room in
-    rw (configured-from ring v may.configured, room, number' slot (v.posted % ring_size) may.next) refl,
-  )
+  λ none.
+      let pass = slot_tests (is_configured ring v) (v.posted - v.taken == ring_size - 1) (slot == v.posted % ring_size) none in
+      record { configured = configured-is ring v pass.0; room = differ _ _ pass.1; next = number _ _ pass.2 },
+  λ may.
+      let room : (v.posted - v.taken == ring_size - 1) ≡ false = differ' _ _ may.room in
+      rw (configured-from ring v may.configured, room, number' slot (v.posted % ring_size) may.next) refl,
+)
 
 none_or : (a : Option Rule) (b : Bool) → option_or a (cond b None (Some M6)) ≡ None → (a ≡ None) × (b ≡ true)
 none_or None true none = (refl, refl)
@@ -203,15 +200,15 @@ none_or (Some rule) b none = absurd (cc)
 
 pub receive-is : (v : RingValues) (names : List Name) (turns : List ℕ) (slot : ℕ) (handle : Handle) → receive_rule v names turns slot handle ≡ None ↔ MayPostReceive v names turns slot handle
 receive-is v names turns slot handle = (
-    λ none.
-    let two = none_or (slot_rule Receive v slot) _ none in
-    let three = both (is_newest turns handle) _ two.1 in
-    let four = both (nat_lt handle.name receive_buffers) _ three.0 in
-    record { post = (slot-is Receive v slot).0 two.0; name = less handle.name receive_buffers four.0; newest = number _ _ four.1; outside = flip _ three.1 },
-    λ may.
-    let name : nat_lt handle.name receive_buffers ≡ true = less' handle.name receive_buffers may.name in
-    rw ((slot-is Receive v slot).1 may.post, name, number' handle.turn (slice_index turns handle.name) may.newest, may.outside) refl,
-  )
+  λ none.
+      let two = none_or (slot_rule Receive v slot) _ none in
+      let three = both (is_newest turns handle) _ two.1 in
+      let four = both (nat_lt handle.name receive_buffers) _ three.0 in
+      record { post = (slot-is Receive v slot).0 two.0; name = less handle.name receive_buffers four.0; newest = number _ _ four.1; outside = flip _ three.1 },
+  λ may.
+      let name : nat_lt handle.name receive_buffers ≡ true = less' handle.name receive_buffers may.name in
+      rw ((slot-is Receive v slot).1 may.post, name, number' handle.turn (slice_index turns handle.name) may.newest, may.outside) refl,
+)
   where
     less : (a b : ℕ) → nat_lt a b ≡ true → a < b
     less a b test = grind (arith, nat_tests)

@@ -1,5 +1,5 @@
 -- What the driver may do, said of the values themselves and not as a chain of tests.
-use Rattle.std.specs.Prelude.{◌≡◌, ◌≢◌, ℕ, ◌+◌, ◌-◌, ◌^◌, ◌%◌, ◌<◌, ◌≤◌, ◌⊎◌, List, Option, None, Some, bit_and, false, slice_index, IsFalse}
+use Rattle.std.specs.Prelude.{◌≡◌, ◌≢◌, ℕ, ◌-◌, ◌^◌, ◌%◌, ◌<◌, ◌≤◌, ◌⊎◌, List, Option, None, Some, bit_and, false, slice_index, IsFalse}
 use Rattle.std.specs.List.{list_any}
 use Rattle.ibos_kinds.specs.declared.names.Handle.{Handle}
 use Rattle.ibos_pool.specs.declared.name.Name.{Name}

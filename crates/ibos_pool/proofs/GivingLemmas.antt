@@ -1,6 +1,5 @@
 -- Buffers that are away are given back, one after the other.
 use Rattle.std.proofs.Common.{◌≡◌, ◌≢◌, ℕ, suc, ◌<◌, ◌||◌, List, [], ◌∷◌, ◌++◌, Bool, true, false, cond, drop, get_or, length, refl, sym, ◌∙◌, ap, subst, arith}
-use Rattle.std.proofs.lemmas.Bool.Decides.{nat_tests}
 use Rattle.std.proofs.lemmas.List.Folds.{list_any-append}
 use Rattle.std.specs.Prelude.{IsFalse, Option, None, Some, slice_get, unwrap_or}
 use Rattle.ibos_pool.specs.declared.name.Name.{Name}
@@ -11,7 +10,7 @@ use Rattle.ibos_pool.specs.Names.{Held, IsClaimed, IsLoanOf, Names, is_taken, pl
 use Rattle.ibos_pool.specs.Places.{same_place}
 use Rattle.ibos_pool.proofs.HandLemmas.{hands-all, names-differ, not_true, place-turned}
 use Rattle.ibos_pool.proofs.NameLemmas.{same_name_from_test}
-use Rattle.ibos_pool.proofs.PlaceLemmas.{same_from_test, test_from_same}
+use Rattle.ibos_pool.proofs.PlaceLemmas.{same_from_test}
 
 either_way : (a b : Bool) → (a || b) ≡ false → (a ≡ false) × (b ≡ false)
 either_way true b e = absurd (let clash : true ≡ false = e in cc)

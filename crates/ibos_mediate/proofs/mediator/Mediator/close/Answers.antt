@@ -1,5 +1,5 @@
 use Rattle.std.proofs.Common.{◌++◌, ◌≡◌, ap, sym, ◌∙◌, subst}
-use Rattle.ibos_mediate.proofs.Words.{AreAway, AreGiven, Mediated, Receive}
+use Rattle.ibos_mediate.proofs.Words.{AreAway, Mediated, Receive}
 use Rattle.ibos_pool.proofs.GivingLemmas.{hands-closed}
 use Rattle.ibos_mediate.proofs.AwayLemmas.{away-both, away-ring, given-lists}
 use Rattle.ibos_mediate.proofs.mediator.Mediator.close.Goals as goal
