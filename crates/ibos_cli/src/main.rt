@@ -16,6 +16,9 @@ use std::{env, io};
 use stdout::StdoutSink;
 
 #[cfg(test)]
+mod mediator_tests;
+
+#[cfg(test)]
 mod tests;
 
 // Why the words could not be kept.
