@@ -14,7 +14,8 @@ use ibos_pool::{Away, Mem, Pool};
 fn give_all(held: HeapCircularBuffer<Away>, pool: &mut Pool, mem: &mut Mem)
     requires { AreAway pool.old mem.old held.items }
     ensures given { AreGiven held.items pool.old pool.new mem.old mem.new }
-    ensures others { (others : List Held) → AreAway pool.old mem.old (held.items ++ others) → AreAway pool.new mem.new others }
+    ensures others { (others : List Held) → AreAway pool.old mem.old (held.items ++ others)
+        → AreAway pool.new mem.new others }
 {
     let mut held = held;
     while let Some(away) = held.pop_front() {
@@ -30,8 +31,10 @@ impl Mediator {
     pub fn close(self, pool: &mut Pool, mem: &mut Mem)
         requires memory { IsInMemory self mem.old }
         requires owned { (ring : Ring) → AreOwned ring (ring_of self ring) pool.old }
-        ensures given { AreGiven (self.receive.held ++ self.transmit.held) pool.old pool.new mem.old mem.new }
-        ensures hands { (held : List Held) → AreAtHand pool.old mem.old held → AreAtHand pool.new mem.new held }
+        ensures given { AreGiven (self.receive.held ++ self.transmit.held) pool.old pool.new mem.old
+            mem.new }
+        ensures hands { (held : List Held) → AreAtHand pool.old mem.old held
+            → AreAtHand pool.new mem.new held }
     {
         let Mediator {
             receive,

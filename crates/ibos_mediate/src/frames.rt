@@ -24,25 +24,33 @@ use ibos_pool::{parts_are_apart, ranges_are_lists};
 
 /// What is received and not taken back, and what is posted and not sent, tell how far the device is.
 pub fn frames_are_counted()
-    ensures received { (mem : Areas) (r : RingView) → completed Receive mem r ≡ r.values.taken + length (received_frames mem r) }
+    ensures received { (mem : Areas) (r : RingView)
+        → completed Receive mem r ≡ r.values.taken + length (received_frames mem r) }
     ensures unsent { (mem : Areas) (r : RingView) → IsBalanced r
         → completed Transmit mem r + length (unsent_frames mem r) ≡ r.values.posted }
-    ensures arrivals { (mem : Areas) (m : Mediated) → completed Receive mem m.receive ≡ m.receive.values.taken + length (arrivals mem m) }
-    ensures bytes { (mem : Areas) (m : Mediated) → map (λ (a : Arrival). a.bytes) (arrivals mem m) ≡ received_frames mem m.receive }
-    ensures returns { (mem : Areas) (r : RingView) → completed Transmit mem r ≡ r.values.taken + length (returns mem r) }
+    ensures arrivals { (mem : Areas) (m : Mediated)
+        → completed Receive mem m.receive ≡ m.receive.values.taken + length (arrivals mem m) }
+    ensures bytes { (mem : Areas) (m : Mediated) → map (λ (a : Arrival). a.bytes)
+        (arrivals mem m) ≡ received_frames mem m.receive }
+    ensures returns { (mem : Areas) (r : RingView)
+        → completed Transmit mem r ≡ r.values.taken + length (returns mem r) }
 {}
 
 /// A frame that is heard is the last of those received, under the handle that its buffer will have, and none that is to
 /// be sent changes.
 pub fn arrivals_add_a_frame()
-    ensures received { (m : Mediated) (mem mem' : Areas) (regs : Registers) (frame written : List ℕ) → IsInMemory m mem
-        → IsAtDevice m mem regs → Heard ≡ verdict_of regs frame → IsReceived mem mem' (receive_head regs) written
+    ensures received { (m : Mediated) (mem mem' : Areas) (regs : Registers) (frame written : List ℕ)
+        → IsInMemory m mem → IsAtDevice m mem regs → Heard ≡ verdict_of regs frame
+        → IsReceived mem mem' (receive_head regs) written
         → received_frames mem' m.receive ≡ received_frames mem m.receive ++ written ∷ [] }
-    ensures arrivals { (m : Mediated) (mem mem' : Areas) (regs : Registers) (frame written : List ℕ) → IsInMemory m mem
-        → IsAtDevice m mem regs → Heard ≡ verdict_of regs frame → IsReceived mem mem' (receive_head regs) written
-        → arrivals mem' m ≡ arrivals mem m ++ record { handle = handle_for m (completed Receive mem m.receive); bytes = written } ∷ [] }
-    ensures unsent { (m : Mediated) (mem mem' : Areas) (regs : Registers) (frame written : List ℕ) → IsInMemory m mem
-        → IsAtDevice m mem regs → Heard ≡ verdict_of regs frame → IsReceived mem mem' (receive_head regs) written
+    ensures arrivals { (m : Mediated) (mem mem' : Areas) (regs : Registers) (frame written : List ℕ)
+        → IsInMemory m mem → IsAtDevice m mem regs → Heard ≡ verdict_of regs frame
+        → IsReceived mem mem' (receive_head regs) written
+        → arrivals mem' m ≡ arrivals mem m ++ record { handle = handle_for m
+        (completed Receive mem m.receive); bytes = written } ∷ [] }
+    ensures unsent { (m : Mediated) (mem mem' : Areas) (regs : Registers) (frame written : List ℕ)
+        → IsInMemory m mem → IsAtDevice m mem regs → Heard ≡ verdict_of regs frame
+        → IsReceived mem mem' (receive_head regs) written
         → unsent_frames mem' m.transmit ≡ unsent_frames mem m.transmit }
 {
     descriptors_are_their_bytes();
@@ -51,14 +59,18 @@ pub fn arrivals_add_a_frame()
 
 /// A frame that is sent is the first of those posted, and none that was received changes.
 pub fn transmissions_end_a_frame()
-    ensures unsent { (m : Mediated) (mem mem' : Areas) (regs : Registers) → IsInMemory m mem → IsAtDevice m mem regs
-        → true ≡ can_transmit regs → IsTransmitted mem mem' (transmit_head regs)
-        → unsent_frames mem m.transmit ≡ frame_at mem (transmit_head regs) ∷ unsent_frames mem' m.transmit }
-    ensures received { (m : Mediated) (mem mem' : Areas) (regs : Registers) → IsInMemory m mem → IsAtDevice m mem regs
-        → true ≡ can_transmit regs → IsTransmitted mem mem' (transmit_head regs)
+    ensures unsent { (m : Mediated) (mem mem' : Areas) (regs : Registers) → IsInMemory m mem
+        → IsAtDevice m mem regs → true ≡ can_transmit regs
+        → IsTransmitted mem mem' (transmit_head regs)
+        → unsent_frames mem m.transmit ≡ frame_at mem (transmit_head regs)
+        ∷ unsent_frames mem' m.transmit }
+    ensures received { (m : Mediated) (mem mem' : Areas) (regs : Registers) → IsInMemory m mem
+        → IsAtDevice m mem regs → true ≡ can_transmit regs
+        → IsTransmitted mem mem' (transmit_head regs)
         → received_frames mem' m.receive ≡ received_frames mem m.receive }
-    ensures arrivals { (m : Mediated) (mem mem' : Areas) (regs : Registers) → IsInMemory m mem → IsAtDevice m mem regs
-        → true ≡ can_transmit regs → IsTransmitted mem mem' (transmit_head regs) → arrivals mem' m ≡ arrivals mem m }
+    ensures arrivals { (m : Mediated) (mem mem' : Areas) (regs : Registers) → IsInMemory m mem
+        → IsAtDevice m mem regs → true ≡ can_transmit regs
+        → IsTransmitted mem mem' (transmit_head regs) → arrivals mem' m ≡ arrivals mem m }
 {
     descriptors_are_their_bytes();
     parts_are_apart();
@@ -68,28 +80,35 @@ pub fn transmissions_end_a_frame()
 pub fn posts_add_a_frame()
     ensures receive_received { (m : Mediated) (mem mem' : Areas) (h : Held) → IsInMemory m mem
         → IsInMemory (changed Receive (Posts h) m) mem'
-        → IsPosted mem mem' (descriptor_at Receive m.receive.values.posted) (rx_bytes (posted_rx (address_of h.place))) h.place
+        → IsPosted mem mem' (descriptor_at Receive m.receive.values.posted)
+        (rx_bytes (posted_rx (address_of h.place))) h.place
         → received_frames mem' (ring_changed m.receive (Posts h)) ≡ received_frames mem m.receive }
     ensures receive_arrivals { (m : Mediated) (mem mem' : Areas) (h : Held) → IsInMemory m mem
         → IsInMemory (changed Receive (Posts h) m) mem'
-        → IsPosted mem mem' (descriptor_at Receive m.receive.values.posted) (rx_bytes (posted_rx (address_of h.place))) h.place
+        → IsPosted mem mem' (descriptor_at Receive m.receive.values.posted)
+        (rx_bytes (posted_rx (address_of h.place))) h.place
         → arrivals mem' (changed Receive (Posts h) m) ≡ arrivals mem m }
     ensures receive_unsent { (m : Mediated) (mem mem' : Areas) (h : Held) → IsInMemory m mem
         → IsInMemory (changed Receive (Posts h) m) mem'
-        → IsPosted mem mem' (descriptor_at Receive m.receive.values.posted) (rx_bytes (posted_rx (address_of h.place))) h.place
+        → IsPosted mem mem' (descriptor_at Receive m.receive.values.posted)
+        (rx_bytes (posted_rx (address_of h.place))) h.place
         → unsent_frames mem' m.transmit ≡ unsent_frames mem m.transmit }
-    ensures transmit_received { (m : Mediated) (mem mem' : Areas) (h : Held) (len : ℕ) → IsInMemory m mem
-        → IsInMemory (changed Transmit (Posts h) m) mem'
-        → IsPosted mem mem' (descriptor_at Transmit m.transmit.values.posted) (tx_bytes (posted_tx (address_of h.place) len)) h.place
+    ensures transmit_received { (m : Mediated) (mem mem' : Areas) (h : Held) (len : ℕ)
+        → IsInMemory m mem → IsInMemory (changed Transmit (Posts h) m) mem'
+        → IsPosted mem mem' (descriptor_at Transmit m.transmit.values.posted)
+        (tx_bytes (posted_tx (address_of h.place) len)) h.place
         → received_frames mem' m.receive ≡ received_frames mem m.receive }
-    ensures transmit_arrivals { (m : Mediated) (mem mem' : Areas) (h : Held) (len : ℕ) → IsInMemory m mem
-        → IsInMemory (changed Transmit (Posts h) m) mem'
-        → IsPosted mem mem' (descriptor_at Transmit m.transmit.values.posted) (tx_bytes (posted_tx (address_of h.place) len)) h.place
+    ensures transmit_arrivals { (m : Mediated) (mem mem' : Areas) (h : Held) (len : ℕ)
+        → IsInMemory m mem → IsInMemory (changed Transmit (Posts h) m) mem'
+        → IsPosted mem mem' (descriptor_at Transmit m.transmit.values.posted)
+        (tx_bytes (posted_tx (address_of h.place) len)) h.place
         → arrivals mem' (changed Transmit (Posts h) m) ≡ arrivals mem m }
-    ensures transmit_unsent { (m : Mediated) (mem mem' : Areas) (h : Held) (len : ℕ) → IsInMemory m mem
-        → IsInMemory (changed Transmit (Posts h) m) mem' → IsKept mem h.place → len ≤ buffer_bytes
-        → IsPosted mem mem' (descriptor_at Transmit m.transmit.values.posted) (tx_bytes (posted_tx (address_of h.place) len)) h.place
-        → unsent_frames mem' (ring_changed m.transmit (Posts h)) ≡ unsent_frames mem m.transmit ++ bytes_at mem (address_of h.place) len ∷ [] }
+    ensures transmit_unsent { (m : Mediated) (mem mem' : Areas) (h : Held) (len : ℕ)
+        → IsInMemory m mem → IsInMemory (changed Transmit (Posts h) m) mem' → IsKept mem h.place
+        → len ≤ buffer_bytes → IsPosted mem mem' (descriptor_at Transmit m.transmit.values.posted)
+        (tx_bytes (posted_tx (address_of h.place) len)) h.place
+        → unsent_frames mem' (ring_changed m.transmit (Posts h)) ≡ unsent_frames mem m.transmit
+        ++ bytes_at mem (address_of h.place) len ∷ [] }
 {
     descriptors_are_their_bytes();
     parts_are_apart();
@@ -99,36 +118,45 @@ pub fn posts_add_a_frame()
 pub fn takes_end_a_frame()
     ensures receive_received { (m : Mediated) (mem mem' : Areas) (p : Place) → IsInMemory m mem
         → completed Receive mem m.receive ≢ m.receive.values.taken → IsMarked mem mem' p false
-        → received_frames mem m.receive ≡ received_bytes mem m.receive m.receive.values.taken ∷ received_frames mem' (ring_changed m.receive Takes) }
-    ensures receive_arrivals { (m : Mediated) (mem mem' : Areas) (names : Names) (p : Place) → IsInMemory m mem
-        → AreOwned Receive m.receive names → completed Receive mem m.receive ≢ m.receive.values.taken → IsMarked mem mem' p false
-        → arrivals mem m ≡ arrival_at mem m m.receive.values.taken ∷ arrivals mem' (taken_back Receive m) }
-    ensures receive_unsent { (m : Mediated) (mem mem' : Areas) (p : Place) → IsInMemory m mem → IsMarked mem mem' p false
-        → unsent_frames mem' m.transmit ≡ unsent_frames mem m.transmit }
-    ensures transmit_received { (m : Mediated) (mem mem' : Areas) (p : Place) → IsInMemory m mem → IsMarked mem mem' p false
-        → received_frames mem' m.receive ≡ received_frames mem m.receive }
-    ensures transmit_arrivals { (m : Mediated) (mem mem' : Areas) (p : Place) → IsInMemory m mem → IsMarked mem mem' p false
-        → arrivals mem' m ≡ arrivals mem m }
+        → received_frames mem m.receive ≡ received_bytes mem m.receive m.receive.values.taken
+        ∷ received_frames mem' (ring_changed m.receive Takes) }
+    ensures receive_arrivals { (m : Mediated) (mem mem' : Areas) (names : Names) (p : Place)
+        → IsInMemory m mem → AreOwned Receive m.receive names
+        → completed Receive mem m.receive ≢ m.receive.values.taken → IsMarked mem mem' p false
+        → arrivals mem m ≡ arrival_at mem m m.receive.values.taken
+        ∷ arrivals mem' (taken_back Receive m) }
+    ensures receive_unsent { (m : Mediated) (mem mem' : Areas) (p : Place) → IsInMemory m mem
+        → IsMarked mem mem' p false → unsent_frames mem' m.transmit ≡ unsent_frames mem m.transmit }
+    ensures transmit_received { (m : Mediated) (mem mem' : Areas) (p : Place) → IsInMemory m mem
+        → IsMarked mem mem' p false → received_frames mem' m.receive
+        ≡ received_frames mem m.receive }
+    ensures transmit_arrivals { (m : Mediated) (mem mem' : Areas) (p : Place) → IsInMemory m mem
+        → IsMarked mem mem' p false → arrivals mem' m ≡ arrivals mem m }
     ensures transmit_unsent { (m : Mediated) (mem mem' : Areas) (p : Place) → IsInMemory m mem
         → completed Transmit mem m.transmit ≢ m.transmit.values.taken → IsMarked mem mem' p false
         → unsent_frames mem' (ring_changed m.transmit Takes) ≡ unsent_frames mem m.transmit }
     ensures transmit_returns { (m : Mediated) (mem mem' : Areas) (p : Place)
         → completed Transmit mem m.transmit ≢ m.transmit.values.taken → IsMarked mem mem' p false
-        → returns mem m.transmit ≡ held_for m.transmit m.transmit.values.taken ∷ returns mem' (ring_changed m.transmit Takes) }
+        → returns mem m.transmit ≡ held_for m.transmit m.transmit.values.taken
+        ∷ returns mem' (ring_changed m.transmit Takes) }
 {}
 
 /// Taking one after the other back ends in one mediator, whatever changes in memory beside: a bell is done where the
 /// device is done with no descriptor that was not taken back.
 pub fn bells_end()
     ensures ends { (ring : Ring) (mem : Areas) (m : Mediated)
-        → completed ring mem (ring_of m ring) ≡ (ring_of m ring).values.taken → after_bell ring mem m ≡ m }
-    ensures arrivals { (mem : Areas) (m : Mediated) → completed Receive mem m.receive ≡ m.receive.values.taken → arrivals mem m ≡ [] }
-    ensures returns { (mem : Areas) (r : RingView) → completed Transmit mem r ≡ r.values.taken → returns mem r ≡ [] }
+        → completed ring mem (ring_of m ring) ≡ (ring_of m ring).values.taken
+        → after_bell ring mem m ≡ m }
+    ensures arrivals { (mem : Areas) (m : Mediated)
+        → completed Receive mem m.receive ≡ m.receive.values.taken → arrivals mem m ≡ [] }
+    ensures returns { (mem : Areas) (r : RingView) → completed Transmit mem r ≡ r.values.taken
+        → returns mem r ≡ [] }
     ensures goes_on { (ring : Ring) (mem mem' : Areas) (m : Mediated) (p : Place)
-        → completed ring mem (ring_of m ring) ≢ (ring_of m ring).values.taken → IsMarked mem mem' p false
-        → after_bell ring mem' (taken_back ring m) ≡ after_bell ring mem m }
-    ensures others { (ring : Ring) (mem mem' : Areas) (m : Mediated)
-        → ((one : Ring) (slot : ℕ) → slot < room_slots → slot_at mem' one slot ≡ slot_at mem one slot)
+        → completed ring mem (ring_of m ring) ≢ (ring_of m ring).values.taken
+        → IsMarked mem mem' p false → after_bell ring mem' (taken_back ring m)
+        ≡ after_bell ring mem m }
+    ensures others { (ring : Ring) (mem mem' : Areas) (m : Mediated) → ((one : Ring) (slot : ℕ)
+        → slot < room_slots → slot_at mem' one slot ≡ slot_at mem one slot)
         → after_bell ring mem' m ≡ after_bell ring mem m }
 {}
 
@@ -141,19 +169,25 @@ pub fn other_changes_keep_the_frames()
     ensures written_arrivals { (m : Mediated) (mem : Areas) (reg : Reg) (value : ℕ)
         → arrivals mem (after_writing reg value m) ≡ arrivals mem m }
     ensures received { (m : Mediated) (mem mem' : Areas) → IsInMemory m mem
-        → ((ring : Ring) (slot : ℕ) → slot < room_slots → slot_at mem' ring slot ≡ slot_at mem ring slot)
-        → ((p : Place) → IsLent mem p → buffer_at mem' p ≡ buffer_at mem p) → received_frames mem' m.receive ≡ received_frames mem m.receive }
+        → ((ring : Ring) (slot : ℕ) → slot < room_slots
+        → slot_at mem' ring slot ≡ slot_at mem ring slot) → ((p : Place) → IsLent mem p
+        → buffer_at mem' p ≡ buffer_at mem p) → received_frames mem' m.receive
+        ≡ received_frames mem m.receive }
     ensures arrivals { (m : Mediated) (mem mem' : Areas) → IsInMemory m mem
-        → ((ring : Ring) (slot : ℕ) → slot < room_slots → slot_at mem' ring slot ≡ slot_at mem ring slot)
-        → ((p : Place) → IsLent mem p → buffer_at mem' p ≡ buffer_at mem p) → arrivals mem' m ≡ arrivals mem m }
+        → ((ring : Ring) (slot : ℕ) → slot < room_slots
+        → slot_at mem' ring slot ≡ slot_at mem ring slot) → ((p : Place) → IsLent mem p
+        → buffer_at mem' p ≡ buffer_at mem p) → arrivals mem' m ≡ arrivals mem m }
     ensures unsent { (m : Mediated) (mem mem' : Areas) → IsInMemory m mem
-        → ((ring : Ring) (slot : ℕ) → slot < room_slots → slot_at mem' ring slot ≡ slot_at mem ring slot)
-        → ((p : Place) → IsLent mem p → buffer_at mem' p ≡ buffer_at mem p) → unsent_frames mem' m.transmit ≡ unsent_frames mem m.transmit }
-    ensures completed { (mem mem' : Areas) (ring : Ring) (r : RingView)
-        → ((one : Ring) (slot : ℕ) → slot < room_slots → slot_at mem' one slot ≡ slot_at mem one slot)
+        → ((ring : Ring) (slot : ℕ) → slot < room_slots
+        → slot_at mem' ring slot ≡ slot_at mem ring slot) → ((p : Place) → IsLent mem p
+        → buffer_at mem' p ≡ buffer_at mem p) → unsent_frames mem' m.transmit
+        ≡ unsent_frames mem m.transmit }
+    ensures completed { (mem mem' : Areas) (ring : Ring) (r : RingView) → ((one : Ring) (slot : ℕ)
+        → slot < room_slots → slot_at mem' one slot ≡ slot_at mem one slot)
         → completed ring mem' r ≡ completed ring mem r }
-    ensures returns { (mem mem' : Areas) (r : RingView)
-        → ((one : Ring) (slot : ℕ) → slot < room_slots → slot_at mem' one slot ≡ slot_at mem one slot) → returns mem' r ≡ returns mem r }
+    ensures returns { (mem mem' : Areas) (r : RingView) → ((one : Ring) (slot : ℕ)
+        → slot < room_slots → slot_at mem' one slot ≡ slot_at mem one slot)
+        → returns mem' r ≡ returns mem r }
 {
     ranges_are_lists();
 }

@@ -10,7 +10,8 @@ use Rattle.ibos_nic.specs.declared.reg.Reg.TheVariants.{Ctrl, Status, Icr, Ims, 
 use Rattle.ibos_nic.specs.Registers.{offset_of}
 
 abbrev pub all_regs : List Reg
-all_regs = Ctrl ∷ Status ∷ Icr ∷ Ims ∷ Imc ∷ Rctl ∷ Tctl ∷ Rdbal ∷ Rdbah ∷ Rdlen ∷ Rdh ∷ Rdt ∷ Tdbal ∷ Tdbah ∷ Tdlen ∷ Tdh ∷ Tdt ∷ Mpc ∷ Ral0 ∷ Rah0 ∷ []
+all_regs = Ctrl ∷ Status ∷ Icr ∷ Ims ∷ Imc ∷ Rctl ∷ Tctl ∷ Rdbal ∷ Rdbah ∷ Rdlen ∷ Rdh ∷ Rdt ∷ Tdbal
+    ∷ Tdbah ∷ Tdlen ∷ Tdh ∷ Tdt ∷ Mpc ∷ Ral0 ∷ Rah0 ∷ []
 
 -- the register that lies at an offset
 unfoldable pub reg_at : ℕ → Option Reg

@@ -44,7 +44,8 @@ MayWritePart ring v High value = (value ≡ 0) × IsDisabled v
 MayWritePart ring v Length value = (value ≡ ring_length) × IsDisabled v
 MayWritePart ring v Head value = (value ≡ 0) × IsDisabled v
 MayWritePart ring v Tail value = (value < ring_size) × IsConfigured ring v × MayRing v value
-MayWritePart ring v Control value = ((value ≡ 0) × IsDisabled v) ⊎ (IsEnabling ring value × IsConfigured ring v)
+MayWritePart ring v Control value = ((value ≡ 0) × IsDisabled v) ⊎ (IsEnabling ring value
+    × IsConfigured ring v)
 
 -- and to a register that is part of no ring
 abbrev pub MayWriteMask : Reg → ℕ → Type 0
@@ -67,7 +68,8 @@ pub record MayPost (ring : Ring) (v : RingValues) (slot : ℕ) : Type 0 where
   pub next : slot ≡ v.posted % ring_size
 
 -- the receive buffer of a handle may be posted there: the handle is the newest, and the buffer is not in the ring
-pub record MayPostReceive (v : RingValues) (names : List Name) (turns : List ℕ) (slot : ℕ) (handle : Handle) : Type 0 where
+pub record MayPostReceive (v : RingValues) (names : List Name) (turns : List ℕ) (slot : ℕ)
+    (handle : Handle) : Type 0 where
   pub post : MayPost Receive v slot
   pub name : handle.name < receive_buffers
   pub newest : handle.turn ≡ slice_index turns handle.name
