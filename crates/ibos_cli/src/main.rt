@@ -17,7 +17,6 @@ use stdout::StdoutSink;
 
 #[cfg(test)]
 mod mediator_tests;
-
 #[cfg(test)]
 mod tests;
 

@@ -1,5 +1,5 @@
-//! The mediator over a model of the device: registers, a ring that is filled, drained and wrapped, stale handles, both
-//! rings at once, and the end with buffers in both.
+//! The mediator over a model of the device: registers, a ring that is filled, drained and wrapped,
+//! stale handles, both rings at once, and the end with buffers in both.
 ghost use Rattle.std.specs.Prelude.{◌≡◌, ◌<◌};
 
 use ibos_device::Model8254x;
@@ -100,7 +100,8 @@ impl Desk {
         self.nic.transmit(alloc, &mut self.mem).expect(rt, "memory")
     }
 
-    // The handle and the length of the oldest frame that was heard, whose buffer is given to the pool.
+    // The handle and the length of the oldest frame that was heard, whose buffer is given to the
+    // pool.
     fn take(&mut self) -> Option<(Handle, u16)> {
         parts_keep_the_whole();
         gifts_keep_the_relation();

@@ -4,15 +4,23 @@ ghost use Rattle.ibos_pool.specs.declared.name.Ring.TheVariants.{Receive, Transm
 ghost use Rattle.ibos_nic.specs.declared.reg.Reg.{Reg};
 ghost use Rattle.ibos_nic.specs.declared.reg.Reg.TheVariants.{Ctrl, Status};
 ghost use Rattle.ibos_nic.specs.declared.log.LogEntry.TheVariants.{In, Out};
-ghost use Rattle.ibos_nic.specs.Registers.{after_heard, after_missed, after_read, after_sent, after_write, can_receive, can_transmit, is_enabled, next_slot, receive_head, reset, transmit_head, with_cause, with_reg};
-ghost use Rattle.ibos_nic.specs.Device.{IsInItsRing, IsReceived, IsTransmitted, MayReceive, MayTransmit, OnHeard, OnSent, OnUnheard, OnUnsent, after_arrive, after_transmit, frame_at, is_for_us, verdict_of};
+ghost use Rattle.ibos_nic.specs.Registers.{after_heard, after_missed, after_read, after_sent};
+ghost use Rattle.ibos_nic.specs.Registers.{after_write, can_receive, can_transmit, is_enabled};
+ghost use Rattle.ibos_nic.specs.Registers.{next_slot, receive_head, reset, transmit_head};
+ghost use Rattle.ibos_nic.specs.Registers.{with_cause, with_reg};
+ghost use Rattle.ibos_nic.specs.Device.{IsInItsRing, IsReceived, IsTransmitted, MayReceive};
+ghost use Rattle.ibos_nic.specs.Device.{MayTransmit, OnHeard, OnSent, OnUnheard, OnUnsent};
+ghost use Rattle.ibos_nic.specs.Device.{after_arrive, after_transmit, frame_at, is_for_us};
+ghost use Rattle.ibos_nic.specs.Device.{verdict_of};
 ghost use Rattle.ibos_device.specs.Cards.{index_of, regs_of};
 ghost use Rattle.ibos_nic.specs.Bits.{max_frame};
 
 use crate::history::History;
 use crate::memory;
 use ibos_kinds::Verdict;
-use ibos_nic::{ENABLE, MAX_FRAME, MIN_FRAME, RECEIVE_OVERRUN, RECEIVED, RING_SLOTS, Reg, TRANSMITTED};
+use ibos_nic::{
+    ENABLE, MAX_FRAME, MIN_FRAME, RECEIVE_OVERRUN, RECEIVED, RING_SLOTS, Reg, TRANSMITTED,
+};
 use ibos_pool::{DESCRIPTOR_BYTES, Mem};
 use std::marker::Model;
 
@@ -38,7 +46,8 @@ impl Model for Card {
 
     ghost view = { λ c. record { values = c.values; log = c.history.entries } };
 
-    ghost invariant = { λ c. (length c.values ≡ 18) × (IsTrue c.is_silent ↔ (c.history.entries ≡ [])) };
+    ghost invariant = { λ c. (length c.values ≡ 18)
+        × (IsTrue c.is_silent ↔ (c.history.entries ≡ [])) };
 }
 
 fn index(reg: Reg) -> usize
@@ -94,7 +103,8 @@ impl Card {
     }
 
     pub(crate) fn at_reset(&self) -> bool
-        ensures { IsTrue result ↔ (((r : Reg) → regs_of self.now r ≡ reset r) × (self.now.log ≡ [])) }
+        ensures { IsTrue result ↔ (((r : Reg) → regs_of self.now r ≡ reset r)
+            × (self.now.log ≡ [])) }
     {
         self.has_reset_values() && self.is_silent
     }
@@ -118,7 +128,8 @@ impl Card {
     fn set(&mut self, reg: Reg, value: u32)
         requires control { reg ≢ Ctrl }
         requires status { reg ≢ Status }
-        ensures registers { (r : Reg) → regs_of self.new r ≡ with_reg reg value (regs_of self.old) r }
+        ensures registers { (r : Reg) → regs_of self.new r
+            ≡ with_reg reg value (regs_of self.old) r }
         ensures log { self.new.log ≡ self.old.log }
     {
         self.values[index(reg)] = value;
@@ -139,7 +150,8 @@ impl Card {
     }
 
     pub(crate) fn write(&mut self, reg: Reg, value: u32)
-        ensures registers { (r : Reg) → regs_of self.new r ≡ after_write reg value (regs_of self.old) r }
+        ensures registers { (r : Reg) → regs_of self.new r
+            ≡ after_write reg value (regs_of self.old) r }
         ensures log { self.new.log ≡ self.old.log }
     {
         match reg {
@@ -271,7 +283,8 @@ impl Card {
     fn send(&mut self, mem: &mut Mem)
         requires { MayTransmit mem.old (transmit_head (regs_of self.old)) }
         ensures registers { (r : Reg) → regs_of self.new r ≡ after_sent (regs_of self.old) r }
-        ensures log { self.new.log ≡ Out (frame_at mem.old (transmit_head (regs_of self.old))) ∷ self.old.log }
+        ensures log { self.new.log ≡ Out (frame_at mem.old (transmit_head (regs_of self.old)))
+            ∷ self.old.log }
         ensures memory { IsTransmitted mem.old mem.new (transmit_head (regs_of self.old)) }
     {
         let at = self.transmit_head();
@@ -282,12 +295,17 @@ impl Card {
 
     /// A frame comes, and the other bytes are written for it.
     pub(crate) fn arrive(&mut self, frame: &[u8], written: &[u8], mem: &mut Mem) -> Verdict
-        requires descriptor { IsTrue (can_receive (regs_of self.old)) → MayReceive mem.old (receive_head (regs_of self.old)) }
-        requires size { IsTrue (is_for_us (regs_of self.old) frame.now) → length written.now ≤ max_frame }
+        requires descriptor { IsTrue (can_receive (regs_of self.old))
+            → MayReceive mem.old (receive_head (regs_of self.old)) }
+        requires size { IsTrue (is_for_us (regs_of self.old) frame.now)
+            → length written.now ≤ max_frame }
         ensures verdict { result ≡ verdict_of (regs_of self.old) frame.now }
-        ensures registers { (r : Reg) → regs_of self.new r ≡ after_arrive (Ok result) (regs_of self.old) r }
-        ensures heard_log { OnHeard (Ok result) (self.new.log ≡ In frame.now written.now ∷ self.old.log) }
-        ensures heard_memory { OnHeard (Ok result) (IsReceived mem.old mem.new (receive_head (regs_of self.old)) written.now) }
+        ensures registers { (r : Reg) → regs_of self.new r
+            ≡ after_arrive (Ok result) (regs_of self.old) r }
+        ensures heard_log { OnHeard (Ok result) (self.new.log ≡ In frame.now written.now
+            ∷ self.old.log) }
+        ensures heard_memory { OnHeard (Ok result)
+            (IsReceived mem.old mem.new (receive_head (regs_of self.old)) written.now) }
         ensures unheard_log { OnUnheard (Ok result) (self.new.log ≡ self.old.log) }
         ensures unheard_memory { OnUnheard (Ok result) (mem.new ≡ mem.old) }
     {
@@ -301,11 +319,15 @@ impl Card {
     }
 
     pub(crate) fn transmit(&mut self, mem: &mut Mem) -> bool
-        requires { IsTrue (can_transmit (regs_of self.old)) → MayTransmit mem.old (transmit_head (regs_of self.old)) }
+        requires { IsTrue (can_transmit (regs_of self.old))
+            → MayTransmit mem.old (transmit_head (regs_of self.old)) }
         ensures sent { result ≡ can_transmit (regs_of self.old) }
-        ensures registers { (r : Reg) → regs_of self.new r ≡ after_transmit (Ok result) (regs_of self.old) r }
-        ensures sent_log { OnSent (Ok result) (self.new.log ≡ Out (frame_at mem.old (transmit_head (regs_of self.old))) ∷ self.old.log) }
-        ensures sent_memory { OnSent (Ok result) (IsTransmitted mem.old mem.new (transmit_head (regs_of self.old))) }
+        ensures registers { (r : Reg) → regs_of self.new r
+            ≡ after_transmit (Ok result) (regs_of self.old) r }
+        ensures sent_log { OnSent (Ok result) (self.new.log
+            ≡ Out (frame_at mem.old (transmit_head (regs_of self.old))) ∷ self.old.log) }
+        ensures sent_memory { OnSent (Ok result)
+            (IsTransmitted mem.old mem.new (transmit_head (regs_of self.old))) }
         ensures unsent_log { OnUnsent (Ok result) (self.new.log ≡ self.old.log) }
         ensures unsent_memory { OnUnsent (Ok result) (mem.new ≡ mem.old) }
     {

@@ -1,7 +1,8 @@
 //! What a device reads and writes in the memory, at the address of a descriptor.
 ghost use Rattle.std.specs.Prelude.{◌≡◌, ◌≤◌, ◌∷◌, length};
 ghost use Rattle.ibos_nic.specs.declared.log.LogEntry.TheVariants.{Out};
-ghost use Rattle.ibos_nic.specs.Device.{IsLentFrom, IsReceived, IsTransmitted, MayReceive, MayTransmit, frame_at, rx_at, tx_at};
+ghost use Rattle.ibos_nic.specs.Device.{IsLentFrom, IsReceived, IsTransmitted, MayReceive};
+ghost use Rattle.ibos_nic.specs.Device.{MayTransmit, frame_at, rx_at, tx_at};
 ghost use Rattle.ibos_nic.specs.Bits.{max_frame};
 
 use crate::history::History;

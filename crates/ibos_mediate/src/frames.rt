@@ -1,10 +1,13 @@
-//! Laws about what the rings have to tell: frames are received and sent in their order, and each once.
-ghost use Rattle.std.specs.Prelude.{◌≡◌, ◌≢◌, ◌+◌, ◌<◌, ◌≤◌, List, ℕ, [], ◌∷◌, ◌++◌, false, true, length, map};
+//! Laws about what the rings have to tell: frames are received and sent in their order, and each
+//! once.
+ghost use Rattle.std.specs.Prelude.{◌≡◌, ◌≢◌, ◌+◌, ◌<◌, ◌≤◌, List, ℕ, [], ◌∷◌, ◌++◌, false, true};
+ghost use Rattle.std.specs.Prelude.{length, map};
 ghost use Rattle.ibos_kinds.specs.declared.names.Verdict.TheVariants.{Heard};
 ghost use Rattle.ibos_pool.specs.declared.name.Ring.{Ring};
 ghost use Rattle.ibos_pool.specs.declared.name.Ring.TheVariants.{Receive, Transmit};
 ghost use Rattle.ibos_pool.specs.declared.place.Place.{Place};
-ghost use Rattle.ibos_pool.specs.Memory.{IsKept, IsLent, IsMarked, Memory as Areas, buffer_at, bytes_at, slot_at};
+ghost use Rattle.ibos_pool.specs.Memory.{IsKept, IsLent, IsMarked, Memory as Areas, buffer_at};
+ghost use Rattle.ibos_pool.specs.Memory.{bytes_at, slot_at};
 ghost use Rattle.ibos_pool.specs.Names.{Held, Names};
 ghost use Rattle.ibos_pool.specs.Places.{address_of};
 ghost use Rattle.ibos_pool.specs.Sizes.{buffer_bytes, room_slots};
@@ -14,15 +17,19 @@ ghost use Rattle.ibos_nic.specs.Device.{IsReceived, IsTransmitted, frame_at, ver
 ghost use Rattle.ibos_nic.specs.Registers.{Registers, can_transmit, receive_head, transmit_head};
 ghost use Rattle.ibos_nic.specs.Rings.{Posts, Takes};
 ghost use Rattle.ibos_mediate.specs.Changes.{after_writing, changed, ring_changed};
-ghost use Rattle.ibos_mediate.specs.Frames.{Arrival, after_bell, arrival_at, arrivals, handle_for, received_bytes, received_frames, returns, taken_back, unsent_frames};
+ghost use Rattle.ibos_mediate.specs.Frames.{Arrival, after_bell, arrival_at, arrivals, handle_for};
+ghost use Rattle.ibos_mediate.specs.Frames.{received_bytes, received_frames, returns, taken_back};
+ghost use Rattle.ibos_mediate.specs.Frames.{unsent_frames};
 ghost use Rattle.ibos_mediate.specs.Mediated.{IsBalanced, Mediated, RingView, ring_of};
 ghost use Rattle.ibos_mediate.specs.Posts.{IsPosted};
-ghost use Rattle.ibos_mediate.specs.Relation.{AreOwned, IsAtDevice, IsInMemory, completed, descriptor_at, held_for, posted_rx, posted_tx};
+ghost use Rattle.ibos_mediate.specs.Relation.{AreOwned, IsAtDevice, IsInMemory, completed};
+ghost use Rattle.ibos_mediate.specs.Relation.{descriptor_at, held_for, posted_rx, posted_tx};
 
 use ibos_nic::descriptors_are_their_bytes;
 use ibos_pool::{parts_are_apart, ranges_are_lists};
 
-/// What is received and not taken back, and what is posted and not sent, tell how far the device is.
+/// What is received and not taken back, and what is posted and not sent, tell how far the device
+/// is.
 pub fn frames_are_counted()
     ensures received { (mem : Areas) (r : RingView)
         → completed Receive mem r ≡ r.values.taken + length (received_frames mem r) }
@@ -36,8 +43,8 @@ pub fn frames_are_counted()
         → completed Transmit mem r ≡ r.values.taken + length (returns mem r) }
 {}
 
-/// A frame that is heard is the last of those received, under the handle that its buffer will have, and none that is to
-/// be sent changes.
+/// A frame that is heard is the last of those received, under the handle that its buffer will have,
+/// and none that is to be sent changes.
 pub fn arrivals_add_a_frame()
     ensures received { (m : Mediated) (mem mem' : Areas) (regs : Registers) (frame written : List ℕ)
         → IsInMemory m mem → IsAtDevice m mem regs → Heard ≡ verdict_of regs frame
@@ -46,8 +53,11 @@ pub fn arrivals_add_a_frame()
     ensures arrivals { (m : Mediated) (mem mem' : Areas) (regs : Registers) (frame written : List ℕ)
         → IsInMemory m mem → IsAtDevice m mem regs → Heard ≡ verdict_of regs frame
         → IsReceived mem mem' (receive_head regs) written
-        → arrivals mem' m ≡ arrivals mem m ++ record { handle = handle_for m
-        (completed Receive mem m.receive); bytes = written } ∷ [] }
+        → arrivals mem' m ≡ arrivals mem m ++ record {
+          handle = handle_for m
+              (completed Receive mem m.receive);
+          bytes = written;
+        } ∷ [] }
     ensures unsent { (m : Mediated) (mem mem' : Areas) (regs : Registers) (frame written : List ℕ)
         → IsInMemory m mem → IsAtDevice m mem regs → Heard ≡ verdict_of regs frame
         → IsReceived mem mem' (receive_head regs) written
@@ -76,7 +86,8 @@ pub fn transmissions_end_a_frame()
     parts_are_apart();
 }
 
-/// A receive buffer that is posted changes no frame. A transmit buffer that is posted has the last frame to be sent.
+/// A receive buffer that is posted changes no frame. A transmit buffer that is posted has the last
+/// frame to be sent.
 pub fn posts_add_a_frame()
     ensures receive_received { (m : Mediated) (mem mem' : Areas) (h : Held) → IsInMemory m mem
         → IsInMemory (changed Receive (Posts h) m) mem'
@@ -114,7 +125,8 @@ pub fn posts_add_a_frame()
     parts_are_apart();
 }
 
-/// A receive buffer that is taken back has the first frame received. A transmit buffer that is taken back changes none.
+/// A receive buffer that is taken back has the first frame received. A transmit buffer that is
+/// taken back changes none.
 pub fn takes_end_a_frame()
     ensures receive_received { (m : Mediated) (mem mem' : Areas) (p : Place) → IsInMemory m mem
         → completed Receive mem m.receive ≢ m.receive.values.taken → IsMarked mem mem' p false
@@ -141,8 +153,8 @@ pub fn takes_end_a_frame()
         ∷ returns mem' (ring_changed m.transmit Takes) }
 {}
 
-/// Taking one after the other back ends in one mediator, whatever changes in memory beside: a bell is done where the
-/// device is done with no descriptor that was not taken back.
+/// Taking one after the other back ends in one mediator, whatever changes in memory beside: a bell
+/// is done where the device is done with no descriptor that was not taken back.
 pub fn bells_end()
     ensures ends { (ring : Ring) (mem : Areas) (m : Mediated)
         → completed ring mem (ring_of m ring) ≡ (ring_of m ring).values.taken
@@ -160,7 +172,8 @@ pub fn bells_end()
         → after_bell ring mem' m ≡ after_bell ring mem m }
 {}
 
-/// A write to a register changes no frame, nor does what leaves the descriptors and the lent buffers.
+/// A write to a register changes no frame, nor does what leaves the descriptors and the lent
+/// buffers.
 pub fn other_changes_keep_the_frames()
     ensures written_received { (m : Mediated) (mem : Areas) (reg : Reg) (value : ℕ)
         → received_frames mem (after_writing reg value m).receive ≡ received_frames mem m.receive }

@@ -1,8 +1,8 @@
 -- Lengths of frames, and bits of registers and descriptors (Intel 8254x, chapters 3 and 13).
 use Rattle.std.specs.Prelude.{ℕ}
 
--- The shortest frame that is taken in is a header (IEEE 802.3 3.1.1, without the frame check sequence), and the longest
--- a header and 1,504 bytes.
+-- The shortest frame that is taken in is a header (IEEE 802.3 3.1.1, without the frame check
+-- sequence), and the longest a header and 1,504 bytes.
 abbrev pub min_frame : ℕ
 min_frame = 14
 
@@ -42,8 +42,8 @@ transmit_command = 0x0b
 abbrev pub receive_control : ℕ
 receive_control = 0x04008002
 
--- The bits of TCTL that are not free, and what they are where it is enabled: EN, and not PSP (13.4.33). CT and COLD are
--- free.
+-- The bits of TCTL that are not free, and what they are where it is enabled: EN, and not PSP
+-- (13.4.33). CT and COLD are free.
 abbrev pub transmit_fixed : ℕ
 transmit_fixed = 0xffc0000f
 

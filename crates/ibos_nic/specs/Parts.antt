@@ -1,4 +1,5 @@
--- Which register is which part of which ring, and which registers there are (Intel 8254x, chapter 13).
+-- Which register is which part of which ring, and which registers there are (Intel 8254x, chapter
+-- 13).
 use Rattle.std.specs.Prelude.{ℕ, ◌==◌, List, [], ◌∷◌, Option, None, Some, find}
 use Rattle.ibos_pool.specs.declared.name.Ring.{Ring}
 use Rattle.ibos_pool.specs.declared.name.Ring.TheVariants.{Receive, Transmit}
@@ -6,7 +7,9 @@ use Rattle.ibos_nic.specs.declared.part.Part.{Part}
 use Rattle.ibos_nic.specs.declared.part.Part.TheVariants.{Base, High, Length, Head, Tail, Control}
 use Rattle.ibos_nic.specs.declared.part.RingPart.{RingPart}
 use Rattle.ibos_nic.specs.declared.reg.Reg.{Reg}
-use Rattle.ibos_nic.specs.declared.reg.Reg.TheVariants.{Ctrl, Status, Icr, Ims, Imc, Rctl, Tctl, Rdbal, Rdbah, Rdlen, Rdh, Rdt, Tdbal, Tdbah, Tdlen, Tdh, Tdt, Mpc, Ral0, Rah0}
+use Rattle.ibos_nic.specs.declared.reg.Reg.TheVariants.{Ctrl, Status, Icr, Ims, Imc, Rctl, Tctl}
+use Rattle.ibos_nic.specs.declared.reg.Reg.TheVariants.{Rdbal, Rdbah, Rdlen, Rdh, Rdt, Tdbal, Tdbah}
+use Rattle.ibos_nic.specs.declared.reg.Reg.TheVariants.{Tdlen, Tdh, Tdt, Mpc, Ral0, Rah0}
 use Rattle.ibos_nic.specs.Registers.{offset_of}
 
 abbrev pub all_regs : List Reg

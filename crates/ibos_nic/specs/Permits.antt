@@ -1,5 +1,6 @@
 -- What the driver may do, said of the values themselves and not as a chain of tests.
-use Rattle.std.specs.Prelude.{◌≡◌, ◌≢◌, ℕ, ◌-◌, ◌^◌, ◌%◌, ◌<◌, ◌≤◌, ◌⊎◌, List, Option, None, Some, bit_and, false, slice_index, IsFalse}
+use Rattle.std.specs.Prelude.{◌≡◌, ◌≢◌, ℕ, ◌-◌, ◌^◌, ◌%◌, ◌<◌, ◌≤◌, ◌⊎◌, List, Option, None, Some}
+use Rattle.std.specs.Prelude.{bit_and, false, slice_index, IsFalse}
 use Rattle.std.specs.List.{list_any}
 use Rattle.ibos_kinds.specs.declared.names.Handle.{Handle}
 use Rattle.ibos_pool.specs.declared.name.Name.{Name}
@@ -67,7 +68,8 @@ pub record MayPost (ring : Ring) (v : RingValues) (slot : ℕ) : Type 0 where
   pub room : v.posted - v.taken ≢ ring_size - 1
   pub next : slot ≡ v.posted % ring_size
 
--- the receive buffer of a handle may be posted there: the handle is the newest, and the buffer is not in the ring
+-- the receive buffer of a handle may be posted there: the handle is the newest, and the buffer is
+-- not in the ring
 pub record MayPostReceive (v : RingValues) (names : List Name) (turns : List ℕ) (slot : ℕ)
     (handle : Handle) : Type 0 where
   pub post : MayPost Receive v slot

@@ -4,20 +4,21 @@ use Rattle.ibos_nic.specs.declared.part.Part.{Part}
 use Rattle.ibos_nic.specs.declared.part.Part.TheVariants.{Base, Length, Tail, Control}
 use Rattle.ibos_nic.specs.Device.{distance}
 
--- The descriptors of a ring are numbered from 0 in the order in which they are posted. Number k stands at slot k modulo
--- ring_size.
+-- The descriptors of a ring are numbered from 0 in the order in which they are posted. Number k
+-- stands at slot k modulo ring_size.
 pub record RingValues : Type 0 where
   -- the values of the ring's base, length and control registers, 0 until they are written
   pub base : ℕ
   pub len : ℕ
   pub control : ℕ
-  -- how many descriptors were posted, how many of these the tail lets the device use, and how many were taken back
+  -- how many descriptors were posted, how many of these the tail lets the device use, and how many
+  -- were taken back
   pub posted : ℕ
   pub rung : ℕ
   pub taken : ℕ
 
--- A change of a ring: a part of its registers is written, a descriptor is posted, the device is done with one, and the
--- oldest is taken back. What is posted is named by an A.
+-- A change of a ring: a part of its registers is written, a descriptor is posted, the device is
+-- done with one, and the oldest is taken back. What is posted is named by an A.
 pub data RingChange (A : Type 0) : Type 0 where
   Writes : (part : Part) (value : ℕ) → RingChange A
   Posts : (what : A) → RingChange A

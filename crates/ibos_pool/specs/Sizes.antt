@@ -19,7 +19,8 @@ room_slots = 64
 abbrev pub receive_buffers : ℕ
 receive_buffers = 64
 
--- each further area has the buffers of an instance: those that it sends from, and those of its inbox
+-- each further area has the buffers of an instance: those that it sends from, and those of its
+-- inbox
 abbrev pub transmit_buffers : ℕ
 transmit_buffers = 4
 
