@@ -10,61 +10,81 @@ use Rattle.indexmap.specs.IndexMap.{insert_entry}
 use Rattle.ibos_kinds.specs.declared.cookies.Cookie.{Cookie}
 use Rattle.ibos_kinds.specs.Cookies.{put, jar_bytes, is_over, jar_text, pair_text, set_breaks, cookie_in, is_token, is_value, name_in, value_in}
 use Rattle.ibos_kinds.specs.declared.rule.Rule.TheVariants.{C1, C2, C3}
-use Rattle.ibos_cookie.specs.Jars.{named_cookies, joined}
+use Rattle.ibos_cookie.specs.Jars.{AreNamed, named_cookies, joined}
 
 same_names : (xs ys : List ℕ) → bytes_eq xs ys ≡ true → xs ≡ ys
 same_names xs ys h = (bytes_eq-Decides xs ys).0 h
 
-length-named : (entries : List (Vec ℕ × List ℕ)) → length (named_cookies entries) ≡ length entries
+length-named : (entries : List (Vec ℕ × Cookie)) → length (named_cookies entries) ≡ length entries
 length-named [] = refl
 length-named (e ∷ es) = ap suc (length-named es)
 
 -- a value that is there is replaced in its place
-named-set_value : (name value held : List ℕ) (entries : List (Vec ℕ × List ℕ)) → lookup (λ key. bytes_eq name key.items) entries ≡ Some held
-    → named_cookies (set_value (λ key. bytes_eq name key.items) entries value) ≡ put (record { name = name; value = value }) (named_cookies entries)
-named-set_value name value held [] found = cc
-named-set_value name value held (e ∷ es) found = by_test (bytes_eq name e.0.items) refl (named-set_value name value held es)
+named-set_value : (name : List ℕ) (pair held : Cookie) (entries : List (Vec ℕ × Cookie)) → lookup (λ key. bytes_eq name key.items) entries ≡ Some held
+    → named_cookies (set_value (λ key. bytes_eq name key.items) entries pair) ≡ put (record { name = name; value = pair.value }) (named_cookies entries)
+named-set_value name pair held [] found = cc
+named-set_value name pair held (e ∷ es) found = by_test (bytes_eq name e.0.items) refl (named-set_value name pair held es)
   where
     by_test : (here : Bool) → bytes_eq name e.0.items ≡ here
-        → (lookup (λ (key : Vec ℕ). bytes_eq name key.items) es ≡ Some held → named_cookies (set_value (λ key. bytes_eq name key.items) es value) ≡ put (record { name = name; value = value }) (named_cookies es))
-        → named_cookies (set_value (λ key. bytes_eq name key.items) (e ∷ es) value) ≡ put (record { name = name; value = value }) (named_cookies (e ∷ es))
-    by_test true is rest = rw is (ap (λ (n : List ℕ). record { name = n; value = value } ∷ named_cookies es) (sym (same_names name e.0.items is)))
-    by_test false is rest = rw is (ap (λ (cs : List Cookie). record { name = e.0.items; value = e.1 } ∷ cs) (rest (rw is at found)))
+        → (lookup (λ (key : Vec ℕ). bytes_eq name key.items) es ≡ Some held → named_cookies (set_value (λ key. bytes_eq name key.items) es pair) ≡ put (record { name = name; value = pair.value }) (named_cookies es))
+        → named_cookies (set_value (λ key. bytes_eq name key.items) (e ∷ es) pair) ≡ put (record { name = name; value = pair.value }) (named_cookies (e ∷ es))
+    by_test true is rest = rw is (ap (λ (n : List ℕ). record { name = n; value = pair.value } ∷ named_cookies es) (sym (same_names name e.0.items is)))
+    by_test false is rest = rw is (ap (λ (cs : List Cookie). record { name = e.0.items; value = e.1.value } ∷ cs) (rest (rw is at found)))
 
 -- an insertion is a set
-named-insert_entry : (key : Vec ℕ) (value : List ℕ) (entries : List (Vec ℕ × List ℕ))
-    → named_cookies (insert_entry (λ (a b : Vec ℕ). bytes_eq a.items b.items) entries key value) ≡ put (record { name = key.items; value = value }) (named_cookies entries)
-named-insert_entry key value [] = refl
-named-insert_entry key value (e ∷ es) = by_test (bytes_eq key.items e.0.items) refl (named-insert_entry key value es)
+named-insert_entry : (key : Vec ℕ) (pair : Cookie) (entries : List (Vec ℕ × Cookie))
+    → named_cookies (insert_entry (λ (a b : Vec ℕ). bytes_eq a.items b.items) entries key pair) ≡ put (record { name = key.items; value = pair.value }) (named_cookies entries)
+named-insert_entry key pair [] = refl
+named-insert_entry key pair (e ∷ es) = by_test (bytes_eq key.items e.0.items) refl (named-insert_entry key pair es)
   where
     by_test : (here : Bool) → bytes_eq key.items e.0.items ≡ here
-        → named_cookies (insert_entry (λ (a b : Vec ℕ). bytes_eq a.items b.items) es key value) ≡ put (record { name = key.items; value = value }) (named_cookies es)
-        → named_cookies (insert_entry (λ (a b : Vec ℕ). bytes_eq a.items b.items) (e ∷ es) key value) ≡ put (record { name = key.items; value = value }) (named_cookies (e ∷ es))
-    by_test true is rest = rw is (ap (λ (n : List ℕ). record { name = n; value = value } ∷ named_cookies es) (sym (same_names key.items e.0.items is)))
-    by_test false is rest = rw is (ap (λ (cs : List Cookie). record { name = e.0.items; value = e.1 } ∷ cs) rest)
+        → named_cookies (insert_entry (λ (a b : Vec ℕ). bytes_eq a.items b.items) es key pair) ≡ put (record { name = key.items; value = pair.value }) (named_cookies es)
+        → named_cookies (insert_entry (λ (a b : Vec ℕ). bytes_eq a.items b.items) (e ∷ es) key pair) ≡ put (record { name = key.items; value = pair.value }) (named_cookies (e ∷ es))
+    by_test true is rest = rw is (ap (λ (n : List ℕ). record { name = n; value = pair.value } ∷ named_cookies es) (sym (same_names key.items e.0.items is)))
+    by_test false is rest = rw is (ap (λ (cs : List Cookie). record { name = e.0.items; value = e.1.value } ∷ cs) rest)
+
+-- both leave each under its own name
+pub names-set_value : (name : List ℕ) (pair : Cookie) (entries : List (Vec ℕ × Cookie)) → pair.name ≡ name → AreNamed entries → AreNamed (set_value (λ key. bytes_eq name key.items) entries pair)
+names-set_value name pair [] named are = tt
+names-set_value name pair (e ∷ es) named are = by_test (bytes_eq name e.0.items) refl (names-set_value name pair es named are.1)
+  where
+    by_test : (here : Bool) → bytes_eq name e.0.items ≡ here → AreNamed (set_value (λ (key : Vec ℕ). bytes_eq name key.items) es pair)
+        → AreNamed (set_value (λ (key : Vec ℕ). bytes_eq name key.items) (e ∷ es) pair)
+    by_test true is rest = rw is (named ∙ same_names name e.0.items is, are.1)
+    by_test false is rest = rw is (are.0, rest)
+
+pub names-insert_entry : (key : Vec ℕ) (pair : Cookie) (entries : List (Vec ℕ × Cookie)) → pair.name ≡ key.items → AreNamed entries
+    → AreNamed (insert_entry (λ (a b : Vec ℕ). bytes_eq a.items b.items) entries key pair)
+names-insert_entry key pair [] named are = (named, tt)
+names-insert_entry key pair (e ∷ es) named are = by_test (bytes_eq key.items e.0.items) refl (names-insert_entry key pair es named are.1)
+  where
+    by_test : (here : Bool) → bytes_eq key.items e.0.items ≡ here → AreNamed (insert_entry (λ (a b : Vec ℕ). bytes_eq a.items b.items) es key pair)
+        → AreNamed (insert_entry (λ (a b : Vec ℕ). bytes_eq a.items b.items) (e ∷ es) key pair)
+    by_test true is rest = rw is (named ∙ same_names key.items e.0.items is, are.1)
+    by_test false is rest = rw is (are.0, rest)
 
 jar_bytes-cons : (c : Cookie) (cookies : List Cookie) → jar_bytes (c ∷ cookies) ≡ length c.name + length c.value + jar_bytes cookies
 jar_bytes-cons c cookies = sum_by-cons (λ (x : Cookie). length x.name + length x.value) c cookies
 
 -- how a set of a name that is there counts: by the cookies, and by their bytes
-record CountsHeld (name value held : List ℕ) (entries : List (Vec ℕ × List ℕ)) : Type 0 where
+record CountsHeld (name value : List ℕ) (held : Cookie) (entries : List (Vec ℕ × Cookie)) : Type 0 where
   count : length (put (record { name = name; value = value }) (named_cookies entries)) ≡ length entries
-  sum : jar_bytes (put (record { name = name; value = value }) (named_cookies entries)) + length held ≡ jar_bytes (named_cookies entries) + length value
-  within : length held ≤ jar_bytes (named_cookies entries)
+  sum : jar_bytes (put (record { name = name; value = value }) (named_cookies entries)) + length held.value ≡ jar_bytes (named_cookies entries) + length value
+  within : length held.value ≤ jar_bytes (named_cookies entries)
 
-record CountsNew (name value : List ℕ) (entries : List (Vec ℕ × List ℕ)) : Type 0 where
+record CountsNew (name value : List ℕ) (entries : List (Vec ℕ × Cookie)) : Type 0 where
   count : length (put (record { name = name; value = value }) (named_cookies entries)) ≡ length entries + 1
   sum : jar_bytes (put (record { name = name; value = value }) (named_cookies entries)) ≡ jar_bytes (named_cookies entries) + length name + length value
 
-some_same : (x y : List ℕ) → Some x ≡ Some y → x ≡ y
+some_same : (x y : Cookie) → Some x ≡ Some y → x ≡ y
 some_same x y h = cc
 
-counts_held : (name value held : List ℕ) (entries : List (Vec ℕ × List ℕ)) → lookup (λ key. bytes_eq name key.items) entries ≡ Some held → CountsHeld name value held entries
+counts_held : (name value : List ℕ) (held : Cookie) (entries : List (Vec ℕ × Cookie)) → lookup (λ key. bytes_eq name key.items) entries ≡ Some held → CountsHeld name value held entries
 counts_held name value held [] found = cc
 counts_held name value held (e ∷ es) found = by_test (bytes_eq name e.0.items) refl (counts_held name value held es)
   where
     here : Cookie
-    here = record { name = e.0.items; value = e.1 }
+    here = record { name = e.0.items; value = e.1.value }
 
     set : Cookie
     set = record { name = name; value = value }
@@ -75,7 +95,7 @@ counts_held name value held (e ∷ es) found = by_test (bytes_eq name e.0.items)
         let sums = jar_bytes-cons set (named_cookies es) in
         let was = jar_bytes-cons here (named_cookies es) in
         let names = ap length (same_names name e.0.items is) in
-        let len = ap length got in
+        let len = ap (λ (c : Cookie). length c.value) got in
         record {
           count = rw is (ap suc (length-named es));
           sum = rw is (omega (arith, sums, was, names, len));
@@ -91,12 +111,12 @@ counts_held name value held (e ∷ es) found = by_test (bytes_eq name e.0.items)
           within = omega (arith, was, more.within);
         }
 
-counts_new : (name value : List ℕ) (entries : List (Vec ℕ × List ℕ)) → lookup (λ key. bytes_eq name key.items) entries ≡ None → CountsNew name value entries
+counts_new : (name value : List ℕ) (entries : List (Vec ℕ × Cookie)) → lookup (λ key. bytes_eq name key.items) entries ≡ None → CountsNew name value entries
 counts_new name value [] absent = record { count = refl; sum = omega (arith, jar_bytes-cons (record { name = name; value = value }) []) }
 counts_new name value (e ∷ es) absent = by_test (bytes_eq name e.0.items) refl (counts_new name value es)
   where
     here : Cookie
-    here = record { name = e.0.items; value = e.1 }
+    here = record { name = e.0.items; value = e.1.value }
 
     set : Cookie
     set = record { name = name; value = value }
@@ -130,8 +150,8 @@ unfolding is_over
 over_by cookies count bytes counted summed = rw (counted, summed) refl
 
 -- a set of a name that is there, as the code says it: the bytes that were counted, without those of the held value
-module _ (name value held : List ℕ) (entries : List (Vec ℕ × List ℕ)) (jar : List Cookie) (bytes len : ℕ) (found : lookup (λ key. bytes_eq name key.items) entries ≡ Some held)
-    (counted : bytes ≡ jar_bytes (named_cookies entries)) (seen : named_cookies entries ≡ jar) (held_len : len ≡ length held) where
+module _ (name value : List ℕ) (held : Cookie) (entries : List (Vec ℕ × Cookie)) (jar : List Cookie) (bytes len : ℕ) (found : lookup (λ key. bytes_eq name key.items) entries ≡ Some held)
+    (counted : bytes ≡ jar_bytes (named_cookies entries)) (seen : named_cookies entries ≡ jar) (held_len : len ≡ length held.value) where
   pub held_within : len ≤ bytes
   held_within = let counts = counts_held name value held entries found in omega (arith, counts.within, counted, held_len)
 
@@ -147,13 +167,15 @@ module _ (name value held : List ℕ) (entries : List (Vec ℕ × List ℕ)) (ja
       let sum : bytes - len + length value ≡ jar_bytes (put (record { name = name; value = value }) (named_cookies entries)) = omega (arith, counts.sum, counts.within, counted, held_len) in
       sum ∙ ap (λ cookies. jar_bytes (put (record { name = name; value = value }) cookies)) seen
 
-  pub put_held : (new : List (Vec ℕ × List ℕ)) (copy : List ℕ) → new ≡ set_value (λ key. bytes_eq name key.items) entries copy → copy ≡ value
+  pub put_held : (new : List (Vec ℕ × Cookie)) (pair : Cookie) → new ≡ set_value (λ key. bytes_eq name key.items) entries pair → pair.value ≡ value
       → named_cookies new ≡ put (record { name = name; value = value }) jar
-  put_held new copy written same =
-      ap named_cookies (written ∙ ap (λ v. set_value (λ (key : Vec ℕ). bytes_eq name key.items) entries v) same)
-      ∙ named-set_value name value held entries found ∙ ap (λ cookies. put (record { name = name; value = value }) cookies) seen
+  put_held new pair written same =
+      ap named_cookies written
+      ∙ named-set_value name pair held entries found
+      ∙ ap (λ (v : List ℕ). put (record { name = name; value = v }) (named_cookies entries)) same
+      ∙ ap (λ cookies. put (record { name = name; value = value }) cookies) seen
 
-module _ (name value : List ℕ) (entries : List (Vec ℕ × List ℕ)) (jar : List Cookie) (bytes : ℕ)
+module _ (name value : List ℕ) (entries : List (Vec ℕ × Cookie)) (jar : List Cookie) (bytes : ℕ)
     (counted : bytes ≡ jar_bytes (named_cookies entries)) (seen : named_cookies entries ≡ jar) where
   pub over_new : (count : ℕ) → lookup (λ key. bytes_eq name key.items) entries ≡ None → count ≡ length entries
       → (nat_lt 20 (count + 1) || nat_lt 4096 (bytes + length name + length value)) ≡ is_over (put (record { name = name; value = value }) jar)
@@ -168,12 +190,12 @@ module _ (name value : List ℕ) (entries : List (Vec ℕ × List ℕ)) (jar : L
       let sum : bytes + (length name + length value) ≡ jar_bytes (put (record { name = name; value = value }) (named_cookies entries)) = omega (arith, counts.sum, counted) in
       sum ∙ ap (λ cookies. jar_bytes (put (record { name = name; value = value }) cookies)) seen
 
-  pub put_new : (base new : List (Vec ℕ × List ℕ)) (key : Vec ℕ) (copy : List ℕ) → base ≡ entries → new ≡ insert_entry (λ (a b : Vec ℕ). bytes_eq a.items b.items) base key copy → key.items ≡ name → copy ≡ value
+  pub put_new : (base new : List (Vec ℕ × Cookie)) (key : Vec ℕ) (pair : Cookie) → base ≡ entries → new ≡ insert_entry (λ (a b : Vec ℕ). bytes_eq a.items b.items) base key pair → key.items ≡ name → pair.value ≡ value
       → named_cookies new ≡ put (record { name = name; value = value }) jar
-  put_new base new key copy same_base written named same =
-      ap named_cookies written ∙ named-insert_entry key copy base
-      ∙ ap (λ (es : List (Vec ℕ × List ℕ)). put (record { name = key.items; value = copy }) (named_cookies es)) same_base
-      ∙ ap (λ (n : List ℕ). put (record { name = n; value = copy }) (named_cookies entries)) named
+  put_new base new key pair same_base written named same =
+      ap named_cookies written ∙ named-insert_entry key pair base
+      ∙ ap (λ (es : List (Vec ℕ × Cookie)). put (record { name = key.items; value = pair.value }) (named_cookies es)) same_base
+      ∙ ap (λ (n : List ℕ). put (record { name = n; value = pair.value }) (named_cookies entries)) named
       ∙ ap (λ (v : List ℕ). put (record { name = name; value = v }) (named_cookies entries)) same
       ∙ ap (λ cookies. put (record { name = name; value = value }) cookies) seen
 

@@ -30,9 +30,15 @@ PutsJar old new origin jar = (other : List ℕ)
 abbrev pub origin_jars : List (Vec ℕ × List Cookie) → List OriginJar
 origin_jars entries = map (λ entry. record { origin = entry.0.items; cookies = entry.1 }) entries
 
--- the cookies that a table of values by name holds, in its order
-abbrev pub named_cookies : List (Vec ℕ × List ℕ) → List Cookie
-named_cookies entries = map (λ entry. record { name = entry.0.items; value = entry.1 }) entries
+-- the cookies that a table by name holds, in its order
+abbrev pub named_cookies : List (Vec ℕ × Cookie) → List Cookie
+named_cookies entries = map (λ entry.
+    record { name = entry.0.items; value = entry.1.value }) entries
+
+-- each stands under its own name
+abbrev pub AreNamed : List (Vec ℕ × Cookie) → Type 0
+AreNamed [] = Unit {0}
+AreNamed (entry ∷ entries) = (entry.1.name ≡ entry.0.items) × AreNamed entries
 
 -- a text with one pair more
 abbrev pub joined : List ℕ → Cookie → List ℕ

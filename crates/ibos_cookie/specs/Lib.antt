@@ -1,2 +1,3 @@
 pub mod Jars
 pub mod Faults
+pub mod Pairs

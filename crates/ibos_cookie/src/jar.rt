@@ -6,6 +6,7 @@ ghost use Rattle.ibos_cookie.specs.Jars.{joined};
 ghost use Rattle.ibos_cookie.specs.Faults.{Answers};
 
 use crate::jars::CookieFault;
+use crate::pair::Pair;
 use crate::texts::{is_token, is_value, split_cookie};
 use ibos_kinds::{Bytes, Memory, Rule};
 use indexmap::IndexMap;
@@ -16,11 +17,11 @@ const MAX_COOKIES: usize = 20;
 
 const MAX_BYTES: usize = 4096;
 
-/// The cookies of one origin: the values by their names, in the order in which the names were first
+/// The cookies of one origin: each by its name, in the order in which the names were first
 /// set, and how many bytes both have together.
 #[derive(Drop)]
 pub struct Jar {
-    values: IndexMap<Vec<u8>, Bytes>,
+    pairs: IndexMap<Vec<u8>, Pair>,
     bytes: usize,
 }
 
@@ -28,14 +29,14 @@ impl Model for Jar {
     ghost use Rattle.std.specs.Prelude.{◌≡◌, List, false};
     ghost use Rattle.ibos_kinds.specs.declared.cookies.Cookie.{Cookie};
     ghost use Rattle.ibos_kinds.specs.Cookies.{jar_bytes, is_over};
-    ghost use Rattle.ibos_cookie.specs.Jars.{named_cookies};
+    ghost use Rattle.ibos_cookie.specs.Jars.{AreNamed, named_cookies};
 
     ghost Value = { List Cookie };
 
-    ghost view = { λ j. named_cookies j.values.entries };
+    ghost view = { λ j. named_cookies j.pairs.entries };
 
-    ghost invariant = { λ j. (j.bytes ≡ jar_bytes (named_cookies j.values.entries))
-        × (is_over (named_cookies j.values.entries) ≡ false) };
+    ghost invariant = { λ j. (j.bytes ≡ jar_bytes (named_cookies j.pairs.entries))
+        × (is_over (named_cookies j.pairs.entries) ≡ false) × AreNamed j.pairs.entries };
 }
 
 impl Jar {
@@ -44,7 +45,7 @@ impl Jar {
         ensures { result ≡ [] }
     {
         Jar {
-            values: IndexMap::new(alloc),
+            pairs: IndexMap::new(alloc),
             bytes: 0,
         }
     }
@@ -53,11 +54,16 @@ impl Jar {
     fn is_over_after(&self, name: &[u8], value: &[u8]) -> bool
         ensures { result ≡ is_over (put (record { name = name.now; value = value.now }) self.now) }
     {
-        match self.values.get(name) {
+        match self.pairs.get(name) {
             Some(held) => {
-                passes_limit(self.values.len(), self.bytes - held.len(), 0, value.len())
+                passes_limit(
+                    self.pairs.len(),
+                    self.bytes - held.value_len(),
+                    0,
+                    value.len(),
+                )
             }
-            None => passes_limit(self.values.len() + 1, self.bytes, name.len(), value.len()),
+            None => passes_limit(self.pairs.len() + 1, self.bytes, name.len(), value.len()),
         }
     }
 
@@ -86,15 +92,15 @@ impl Jar {
             ≡ put (record { name = name.now; value = value.now }) self.old) }
         ensures err { OnErr result (self.new ≡ self.old) }
     {
-        let copy = Bytes::from_slice(alloc, value)?;
-        match self.values.get_mut(name) {
+        let pair = Pair::new(alloc, name, value)?;
+        match self.pairs.get_mut(name) {
             Some(held) => {
-                self.bytes = self.bytes - held.len() + value.len();
-                *held = copy;
+                self.bytes = self.bytes - held.value_len() + value.len();
+                *held = pair;
                 Ok(())
             }
             None => {
-                self.values.insert(Vec::from_slice(alloc, name)?, copy)?;
+                self.pairs.insert(Vec::from_slice(alloc, name)?, pair)?;
                 self.bytes += name.len() + value.len();
                 Ok(())
             }
@@ -126,8 +132,8 @@ impl Jar {
         let mut text = Bytes::new(alloc);
         // room for all at once: two bytes part the pairs, and one parts a name from its value
         text.reserve(self.bytes + 3 * MAX_COOKIES)?;
-        for (name, value) in &self.values {
-            push_pair(&mut text, name.as_slice(), value.as_slice())?;
+        for (_name, pair) in &self.pairs {
+            push_pair(&mut text, pair)?;
         }
         Ok(text)
     }
@@ -143,15 +149,13 @@ fn passes_limit(count: usize, bytes: usize, name_len: usize, value_len: usize) -
 }
 
 // Appends a pair, behind a semicolon and a space unless it is the first.
-fn push_pair(text: &mut Bytes, name: &[u8], value: &[u8]) -> Result<(), Memory>
-    ensures { OnOk result (text.new
-        ≡ joined text.old (record { name = name.now; value = value.now })) }
+fn push_pair(text: &mut Bytes, pair: &Pair) -> Result<(), Memory>
+    ensures { OnOk result (text.new ≡ joined text.old pair.now) }
 {
-    if !text.is_empty() {
-        text.push_slice(b"; ")?;
+    if text.is_empty() {
+        text.push_slice(pair.first())?;
+    } else {
+        text.push_slice(pair.line())?;
     }
-    text.push_slice(name)?;
-    text.push_slice(b"=")?;
-    text.push_slice(value)?;
     Ok(())
 }

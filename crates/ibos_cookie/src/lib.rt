@@ -3,6 +3,7 @@
 
 mod jar;
 mod jars;
+mod pair;
 mod texts;
 
 pub use jars::{CookieFault, Jars};
