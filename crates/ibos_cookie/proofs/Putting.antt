@@ -1,6 +1,6 @@
 -- What a set does to the table of a jar, and a jar's text.
 use Rattle.std.proofs.Common.{◌≡◌, ℕ, ◌+◌, ◌-◌, ◌≤◌, ◌<◌, List, [], ◌∷◌, ◌++◌, Bool, true, false, refl, sym, ◌∙◌, ap, length, suc, arith, length-append, append_assoc, Some, None}
-use Rattle.std.specs.Prelude.{bytes_eq, codes, not, nat_lt, ◌==◌, ◌||◌, if◌then◌else◌}
+use Rattle.std.specs.Prelude.{bytes_eq, codes, nat_lt, ◌==◌, ◌||◌, if◌then◌else◌}
 use Rattle.std.specs.Global.{Vec}
 use Rattle.std.specs.Map.{lookup, set_value}
 use Rattle.std.proofs.lemmas.Bool.Decides.{nat_tests}
@@ -8,12 +8,14 @@ use Rattle.std.proofs.lemmas.Slice.Eq.{bytes_eq-Decides}
 use Rattle.std.proofs.lemmas.List.Sums.{sum_by-cons}
 use Rattle.indexmap.specs.IndexMap.{insert_entry}
 use Rattle.ibos_kinds.specs.declared.cookies.Cookie.{Cookie}
-use Rattle.ibos_kinds.specs.Cookies.{put, jar_bytes, is_over, jar_text, pair_text, set_breaks, cookie_in, is_token, is_value, name_in, value_in}
-use Rattle.ibos_kinds.specs.declared.rule.Rule.TheVariants.{C1, C2, C3}
+use Rattle.ibos_kinds.specs.Cookies.{put, jar_bytes, is_over, jar_text, pair_text}
 use Rattle.ibos_cookie.specs.Jars.{AreNamed, named_cookies, joined}
 
 same_names : (xs ys : List ℕ) → bytes_eq xs ys ≡ true → xs ≡ ys
 same_names xs ys h = (bytes_eq-Decides xs ys).0 h
+
+some_is : (x y : Cookie) → Some x ≡ Some y → x ≡ y
+some_is x y h = cc
 
 length-named : (entries : List (Vec ℕ × Cookie)) → length (named_cookies entries) ≡ length entries
 length-named [] = refl
@@ -42,6 +44,34 @@ named-insert_entry key pair (e ∷ es) = by_test (bytes_eq key.items e.0.items) 
         → named_cookies (insert_entry (λ (a b : Vec ℕ). bytes_eq a.items b.items) (e ∷ es) key pair) ≡ put (record { name = key.items; value = pair.value }) (named_cookies (e ∷ es))
     by_test true is rest = rw is (ap (λ (n : List ℕ). record { name = n; value = pair.value } ∷ named_cookies es) (sym (same_names key.items e.0.items is)))
     by_test false is rest = rw is (ap (λ (cs : List Cookie). record { name = e.0.items; value = e.1.value } ∷ cs) rest)
+
+-- a cookie that is put back where it stands changes nothing
+pub set-same : (name : List ℕ) (held : Cookie) (entries : List (Vec ℕ × Cookie)) → lookup (λ key. bytes_eq name key.items) entries ≡ Some held
+    → set_value (λ key. bytes_eq name key.items) entries held ≡ entries
+set-same name held [] found = cc
+set-same name held (e ∷ es) found = by_test (bytes_eq name e.0.items) refl (set-same name held es)
+  where
+    Entry : Type 0
+    Entry = Vec ℕ × Cookie
+
+    by_test : (here : Bool) → bytes_eq name e.0.items ≡ here
+        → (lookup (λ (key : Vec ℕ). bytes_eq name key.items) es ≡ Some held → set_value (λ (key : Vec ℕ). bytes_eq name key.items) es held ≡ es)
+        → set_value (λ (key : Vec ℕ). bytes_eq name key.items) (e ∷ es) held ≡ e ∷ es
+    by_test true is rest =
+        let got : e.1 ≡ held = some_is e.1 held (rw is at found) in
+        let F : Cookie → List Entry = λ c. (e.0, c) ∷ es in
+        rw is (ap F (sym got))
+    by_test false is rest = rw is (ap (λ (xs : List Entry). e ∷ xs) (rest (rw is at found)))
+
+pub held_name : (name : List ℕ) (held : Cookie) (entries : List (Vec ℕ × Cookie)) → lookup (λ key. bytes_eq name key.items) entries ≡ Some held → AreNamed entries → held.name ≡ name
+held_name name held [] found are = cc
+held_name name held (e ∷ es) found are = by_test (bytes_eq name e.0.items) refl (λ more. held_name name held es more are.1)
+  where
+    by_test : (here : Bool) → bytes_eq name e.0.items ≡ here → (lookup (λ (key : Vec ℕ). bytes_eq name key.items) es ≡ Some held → held.name ≡ name) → held.name ≡ name
+    by_test true is rest =
+        let got : e.1 ≡ held = some_is e.1 held (rw is at found) in
+        sym (ap (λ (c : Cookie). c.name) got) ∙ are.0 ∙ sym (same_names name e.0.items is)
+    by_test false is rest = rest (rw is at found)
 
 -- both leave each under its own name
 pub names-set_value : (name : List ℕ) (pair : Cookie) (entries : List (Vec ℕ × Cookie)) → pair.name ≡ name → AreNamed entries → AreNamed (set_value (λ key. bytes_eq name key.items) entries pair)
@@ -76,9 +106,6 @@ record CountsNew (name value : List ℕ) (entries : List (Vec ℕ × Cookie)) : 
   count : length (put (record { name = name; value = value }) (named_cookies entries)) ≡ length entries + 1
   sum : jar_bytes (put (record { name = name; value = value }) (named_cookies entries)) ≡ jar_bytes (named_cookies entries) + length name + length value
 
-some_same : (x y : Cookie) → Some x ≡ Some y → x ≡ y
-some_same x y h = cc
-
 counts_held : (name value : List ℕ) (held : Cookie) (entries : List (Vec ℕ × Cookie)) → lookup (λ key. bytes_eq name key.items) entries ≡ Some held → CountsHeld name value held entries
 counts_held name value held [] found = cc
 counts_held name value held (e ∷ es) found = by_test (bytes_eq name e.0.items) refl (counts_held name value held es)
@@ -91,7 +118,7 @@ counts_held name value held (e ∷ es) found = by_test (bytes_eq name e.0.items)
 
     by_test : (same : Bool) → bytes_eq name e.0.items ≡ same → (lookup (λ (key : Vec ℕ). bytes_eq name key.items) es ≡ Some held → CountsHeld name value held es) → CountsHeld name value held (e ∷ es)
     by_test true is rest =
-        let got : e.1 ≡ held = some_same e.1 held (rw is at found) in
+        let got : e.1 ≡ held = some_is e.1 held (rw is at found) in
         let sums = jar_bytes-cons set (named_cookies es) in
         let was = jar_bytes-cons here (named_cookies es) in
         let names = ap length (same_names name e.0.items is) in
@@ -198,17 +225,6 @@ module _ (name value : List ℕ) (entries : List (Vec ℕ × Cookie)) (jar : Lis
       ∙ ap (λ (n : List ℕ). put (record { name = n; value = pair.value }) (named_cookies entries)) named
       ∙ ap (λ (v : List ℕ). put (record { name = name; value = v }) (named_cookies entries)) same
       ∙ ap (λ cookies. put (record { name = name; value = value }) cookies) seen
-
-fits_by : (token value over : Bool) → None ≡ (if not token then Some C1 else if not value then Some C2 else if over then Some C3 else None) → over ≡ false
-fits_by false value over none = cc
-fits_by true false over none = cc
-fits_by true true true none = cc
-fits_by true true false none = refl
-
--- a set that breaks no rule fits
-pub fits_after : (text : List ℕ) (cookies : List Cookie) → None ≡ set_breaks text cookies → is_over (put (cookie_in text) cookies) ≡ false
-unfolding set_breaks
-fits_after text cookies none = fits_by (is_token (name_in text)) (is_value (value_in text)) (is_over (put (cookie_in text) cookies)) none
 
 -- ---- the text
 

@@ -3,7 +3,7 @@ ghost use Rattle.std.specs.Prelude.{◌≡◌, ◌≤◌, ◌+◌, [], ◌||◌,
 ghost use Rattle.std.specs.Prelude.{OnErr};
 ghost use Rattle.ibos_kinds.specs.Cookies.{cookie_in, set_breaks, jar_text, is_over, put};
 ghost use Rattle.ibos_cookie.specs.Jars.{joined};
-ghost use Rattle.ibos_cookie.specs.Faults.{Answers};
+ghost use Rattle.ibos_cookie.specs.Faults.{Answers, full_rule};
 
 use crate::jars::CookieFault;
 use crate::pair::Pair;
@@ -50,56 +50,30 @@ impl Jar {
         }
     }
 
-    // Whether the jar would pass a limit by one more set.
-    fn is_over_after(&self, name: &[u8], value: &[u8]) -> bool
-        ensures { result ≡ is_over (put (record { name = name.now; value = value.now }) self.now) }
-    {
-        match self.pairs.get(name) {
-            Some(held) => {
-                passes_limit(
-                    self.pairs.len(),
-                    self.bytes - held.value_len(),
-                    0,
-                    value.len(),
-                )
-            }
-            None => passes_limit(self.pairs.len() + 1, self.bytes, name.len(), value.len()),
-        }
-    }
-
-    // The first rule that a set breaks.
-    #[tactic(auto, unfolding(ibos_kinds::specs::Cookies::set_breaks))]
-    fn broken_rule(&self, text: &[u8]) -> Option<Rule>
-        ensures { result ≡ set_breaks text.now self.now }
-    {
-        let (name, value) = split_cookie(text);
-        if !is_token(name) {
-            return Some(Rule::C1);
-        }
-        if !is_value(value) {
-            return Some(Rule::C2);
-        }
-        if self.is_over_after(name, value) {
-            return Some(Rule::C3);
-        }
-        None
-    }
-
-    // Sets a cookie in its place, or as the last.
-    fn put(&mut self, alloc: Global, name: &[u8], value: &[u8]) -> Result<(), Memory>
-        requires { is_over (put (record { name = name.now; value = value.now }) self.old) ≡ false }
+    // Sets a cookie in its place, or as the last, unless the jar would pass a limit.
+    fn put(&mut self, alloc: Global, name: &[u8], value: &[u8]) -> Result<(), CookieFault>
+        ensures answer { Answers result
+            (full_rule (put (record { name = name.now; value = value.now }) self.old)) }
         ensures ok { OnOk result (self.new
             ≡ put (record { name = name.now; value = value.now }) self.old) }
         ensures err { OnErr result (self.new ≡ self.old) }
     {
-        let pair = Pair::new(alloc, name, value)?;
+        let count = self.pairs.len();
         match self.pairs.get_mut(name) {
             Some(held) => {
-                self.bytes = self.bytes - held.value_len() + value.len();
-                *held = pair;
+                let bytes = self.bytes - held.value_len();
+                if passes_limit(count, bytes, 0, value.len()) {
+                    return Err(CookieFault::Denied(Rule::C3));
+                }
+                held.set_value(value)?;
+                self.bytes = bytes + value.len();
                 Ok(())
             }
             None => {
+                if passes_limit(count + 1, self.bytes, name.len(), value.len()) {
+                    return Err(CookieFault::Denied(Rule::C3));
+                }
+                let pair = Pair::new(alloc, name, value)?;
                 self.pairs.insert(Vec::from_slice(alloc, name)?, pair)?;
                 self.bytes += name.len() + value.len();
                 Ok(())
@@ -109,19 +83,21 @@ impl Jar {
 
     /// Stores one cookie, given as `name=value`. Out of memory, and after a refusal, the jar is as
     /// before.
+    #[tactic(auto, unfolding(ibos_kinds::specs::Cookies::set_breaks))]
     pub fn set(&mut self, alloc: Global, text: &[u8]) -> Result<(), CookieFault>
         ensures answer { Answers result (set_breaks text.now self.old) }
         ensures ok { OnOk result (self.new ≡ put (cookie_in text.now) self.old) }
         ensures err { OnErr result (self.new ≡ self.old) }
     {
-        match self.broken_rule(text) {
-            Some(rule) => Err(CookieFault::Denied(rule)),
-            None => {
-                let (name, value) = split_cookie(text);
-                self.put(alloc, name, value)?;
-                Ok(())
-            }
+        let (name, value) = split_cookie(text);
+        if !is_token(name) {
+            return Err(CookieFault::Denied(Rule::C1));
         }
+        if !is_value(value) {
+            return Err(CookieFault::Denied(Rule::C2));
+        }
+        self.put(alloc, name, value)?;
+        Ok(())
     }
 
     /// All cookies in their order, as a Cookie header has them: pairs with a semicolon and a space

@@ -5,7 +5,7 @@ ghost use Rattle.ibos_kinds.specs.Cookies.{cookie_in, set_breaks, jar_text};
 use crate::jar::Jar;
 use ibos_kinds::{Bytes, Memory, Rule};
 use indexmap::IndexMap;
-use std::alloc::Global;
+use std::alloc::{AllocError, AllocFailed, Global};
 use std::marker::Model;
 
 /// Why a set is refused.
@@ -13,6 +13,26 @@ use std::marker::Model;
 pub enum CookieFault {
     Denied(Rule),
     Memory,
+}
+
+impl From<AllocError> for CookieFault {
+    ghost use Rattle.ibos_cookie.specs.declared.jars.CookieFault.TheVariants.{Memory};
+
+    ghost from_gives = { λ _ e. e ≡ Memory };
+
+    fn from(_: AllocError) -> Self {
+        CookieFault::Memory
+    }
+}
+
+impl<T: Drop> From<AllocFailed<T>> for CookieFault {
+    ghost use Rattle.ibos_cookie.specs.declared.jars.CookieFault.TheVariants.{Memory};
+
+    ghost from_gives = { λ _ e. e ≡ Memory };
+
+    fn from(_: AllocFailed<T>) -> Self {
+        CookieFault::Memory
+    }
 }
 
 impl From<Memory> for CookieFault {
