@@ -54,18 +54,18 @@ module _ (rx_back : (d : RxDesc) → FitsRx d → rx_of (rx_bytes d) ≡ d) (beh
       ap (λ n. bytes_at mem' (address_of (place_for m.receive (completed Receive mem m.receive))) n) size
       ∙ ap (λ at. bytes_at mem' at (length written)) (sym is.descriptor.named) ∙ heard.bytes
 
-  goes_on : completed Receive mem' m.receive ≡ completed Receive mem m.receive + 1
-  goes_on = completed-then Receive m mem mem' in_memory more (received-completes m mem mem' in_memory rx_back behind written more heard) on Receive
+  pub counted-arrived : completed Receive mem' m.receive ≡ completed Receive mem m.receive + 1
+  counted-arrived = completed-then Receive m mem mem' in_memory more (received-completes m mem mem' in_memory rx_back behind written more heard) on Receive
 
   pub received-arrived : received_frames mem' m.receive ≡ received_frames mem m.receive ++ written ∷ []
   received-arrived =
       let ring = in_memory.ring Receive in
-      queue-grows (received_bytes mem m.receive) (received_bytes mem' m.receive) m.receive.values.taken (completed Receive mem m.receive) _ written ring.taken goes_on before new
+      queue-grows (received_bytes mem m.receive) (received_bytes mem' m.receive) m.receive.values.taken (completed Receive mem m.receive) _ written ring.taken counted-arrived before new
 
   pub arrivals-arrived : arrivals mem' m ≡ arrivals mem m ++ record { handle = handle_for m (completed Receive mem m.receive); bytes = written } ∷ []
   arrivals-arrived =
       let ring = in_memory.ring Receive in
-      queue-grows (arrival_at mem m) (arrival_at mem' m) m.receive.values.taken (completed Receive mem m.receive) _ _ ring.taken goes_on
+      queue-grows (arrival_at mem m) (arrival_at mem' m) m.receive.values.taken (completed Receive mem m.receive) _ _ ring.taken counted-arrived
       (λ k from below. ap (arrival k) (before k from below)) (ap (arrival (completed Receive mem m.receive)) new)
     where
       arrival : ℕ → List ℕ → Arrival
@@ -105,6 +105,9 @@ module _ (tx_back : (d : TxDesc) → FitsTx d → tx_of (tx_bytes d) ≡ d) (tx_
   pub arrivals-sent : arrivals mem' m ≡ arrivals mem m
   arrivals-sent = arrivals-left m mem mem' in_memory received-left'
 
+  pub counted-sent : completed Transmit mem' m.transmit ≡ completed Transmit mem m.transmit + 1
+  counted-sent = completed-then Transmit m mem mem' in_memory more (transmitted-completes m mem mem' in_memory tx_back tx_length more sent) on Transmit
+
   pub unsent-sent : unsent_frames mem m.transmit ≡ frame_at mem (descriptor_at Transmit (completed Transmit mem m.transmit)) ∷ unsent_frames mem' m.transmit
   unsent-sent =
       let change = transmitted-completes m mem mem' in_memory tx_back tx_length more sent in
@@ -114,10 +117,9 @@ module _ (tx_back : (d : TxDesc) → FitsTx d → tx_of (tx_bytes d) ≡ d) (tx_
       let room = ring.balanced.room in
       let is_open = its_open Transmit m mem mem' in_memory more change in
       let named = (ring.each (completed Transmit mem m.transmit) is_open).descriptor.named in
-      let count = completed-then Transmit m mem mem' in_memory more change on Transmit in
       queue-shrinks (outgoing_bytes mem m.transmit) (outgoing_bytes mem' m.transmit) (completed Transmit mem m.transmit) m.transmit.values.posted m.transmit.values.posted (omega arith) refl
       (λ k from below. outgoing-at m mem mem' in_memory m.transmit k refl (change.others Transmit k (λ e. slots-differ ring_size k (completed Transmit mem m.transmit) (λ e. omega arith) (omega arith) (omega arith)))
       (λ n small. all-bytes _ (ring.each k (omega arith, below)).lent.place n) (omega arith) below)
       ∙ ap (λ bs. bs ∷ queue (outgoing_bytes mem' m.transmit) (completed Transmit mem m.transmit + 1) (m.transmit.values.posted - (completed Transmit mem m.transmit + 1)))
       (ap (λ at. bytes_at mem at (tx_at mem (descriptor_at Transmit (completed Transmit mem m.transmit))).length) (sym named))
-      ∙ ap (λ c. frame_at mem (descriptor_at Transmit (completed Transmit mem m.transmit)) ∷ queue (outgoing_bytes mem' m.transmit) c (m.transmit.values.posted - c)) (sym count)
+      ∙ ap (λ c. frame_at mem (descriptor_at Transmit (completed Transmit mem m.transmit)) ∷ queue (outgoing_bytes mem' m.transmit) c (m.transmit.values.posted - c)) (sym counted-sent)

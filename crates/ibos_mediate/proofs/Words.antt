@@ -18,7 +18,7 @@ pub use Rattle.ibos_nic.specs.Device.{IsReceived, IsTransmitted, MayMoveTail, Ma
 pub use Rattle.ibos_nic.specs.Parts.{part_of, reg_of}
 pub use Rattle.ibos_nic.specs.Permits.{IsConfigured, IsDisabled, MayWritePart}
 pub use Rattle.ibos_nic.specs.Registers.{Registers, after_missed, after_read, after_write, can_receive, can_transmit, descriptor_address, is_enabled, next_slot, offset_of, receive_head, reset, ring_size, same_reg, status, transmit_head, with_cause, with_reg}
-pub use Rattle.ibos_nic.specs.Rings.{Posts, RingValues, Takes, Writes, rung_count}
+pub use Rattle.ibos_nic.specs.Rings.{Completes, Posts, RingValues, Takes, Writes, rung_count}
 pub use Rattle.ibos_nic.specs.Rules.{is_newest, part_rule, receive_name, receive_rule, rule_in, slot_rule, with_turn, write_rule_of}
 pub use Rattle.ibos_nic.specs.declared.descriptor.RxDesc.{RxDesc}
 pub use Rattle.ibos_nic.specs.declared.descriptor.TxDesc.{TxDesc}

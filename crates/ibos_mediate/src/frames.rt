@@ -43,9 +43,13 @@ pub fn frames_are_counted()
         → completed Transmit mem r ≡ r.values.taken + length (returns mem r) }
 {}
 
-/// A frame that is heard is the last of those received, under the handle that its buffer will have,
-/// and none that is to be sent changes.
+/// A frame that is heard completes one more descriptor. It is the last of those received, under the
+/// handle that its buffer will have, and none that is to be sent changes.
 pub fn arrivals_add_a_frame()
+    ensures counted { (m : Mediated) (mem mem' : Areas) (regs : Registers) (frame written : List ℕ)
+        → IsInMemory m mem → IsAtDevice m mem regs → Heard ≡ verdict_of regs frame
+        → IsReceived mem mem' (receive_head regs) written
+        → completed Receive mem' m.receive ≡ completed Receive mem m.receive + 1 }
     ensures received { (m : Mediated) (mem mem' : Areas) (regs : Registers) (frame written : List ℕ)
         → IsInMemory m mem → IsAtDevice m mem regs → Heard ≡ verdict_of regs frame
         → IsReceived mem mem' (receive_head regs) written
@@ -54,8 +58,7 @@ pub fn arrivals_add_a_frame()
         → IsInMemory m mem → IsAtDevice m mem regs → Heard ≡ verdict_of regs frame
         → IsReceived mem mem' (receive_head regs) written
         → arrivals mem' m ≡ arrivals mem m ++ record {
-          handle = handle_for m
-              (completed Receive mem m.receive);
+          handle = handle_for m (completed Receive mem m.receive);
           bytes = written;
         } ∷ [] }
     ensures unsent { (m : Mediated) (mem mem' : Areas) (regs : Registers) (frame written : List ℕ)
@@ -67,8 +70,13 @@ pub fn arrivals_add_a_frame()
     parts_are_apart();
 }
 
-/// A frame that is sent is the first of those posted, and none that was received changes.
+/// A frame that is sent completes one more descriptor. It is the first of those posted, and none
+/// that was received changes.
 pub fn transmissions_end_a_frame()
+    ensures counted { (m : Mediated) (mem mem' : Areas) (regs : Registers) → IsInMemory m mem
+        → IsAtDevice m mem regs → true ≡ can_transmit regs
+        → IsTransmitted mem mem' (transmit_head regs)
+        → completed Transmit mem' m.transmit ≡ completed Transmit mem m.transmit + 1 }
     ensures unsent { (m : Mediated) (mem mem' : Areas) (regs : Registers) → IsInMemory m mem
         → IsAtDevice m mem regs → true ≡ can_transmit regs
         → IsTransmitted mem mem' (transmit_head regs)
