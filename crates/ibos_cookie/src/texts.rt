@@ -65,11 +65,11 @@ fn is_mark(b: u8) -> bool
 fn is_cookie_octet(b: u8) -> bool
     ensures { result ≡ spec.is_cookie_octet b }
 {
-    b == b'!'
-        || (b >= b'#' && b <= b'+')
-        || (b >= b'-' && b <= b':')
-        || (b >= b'<' && b <= b'[')
-        || (b >= b']' && b <= b'~')
+    (b == b'!')
+        | ((b >= b'#') & (b <= b'+'))
+        | ((b >= b'-') & (b <= b':'))
+        | ((b >= b'<') & (b <= b'['))
+        | ((b >= b']') & (b <= b'~'))
 }
 
 /// Whether a name is a token: one or more letters, digits and marks.
@@ -86,10 +86,15 @@ fn all_token_bytes(name: &[u8]) -> bool
     name.iter().all(|b| is_token_byte(*b))
 }
 
+// All bytes are looked at, wherever the first wrong one stands: that is faster than to stop there.
 fn all_cookie_octets(value: &[u8]) -> bool
     ensures { result ≡ list_all is_cookie_octet value.now }
 {
-    value.iter().all(|b| is_cookie_octet(*b))
+    let mut all = true;
+    for b in value {
+        all = all & is_cookie_octet(*b);
+    }
+    all
 }
 
 // What stands between two double quotes, or the whole where it isn't quoted.

@@ -31,9 +31,8 @@ const MAX_HOSTS_LEN: usize = 4_194_304;
 /// The host table is read first, and the script where the table has no fault. Each line of the
 /// script that is an act is one step of a kernel, and the text of its outcome goes to the sink,
 /// numbered from 1. The last line is `end K` with the number of acts, or `refused FILE K N NAME`
-/// with the first fault: FILE is
-/// `hosts` or `script`, K the line, N and NAME the fault's number and name. Any other words are answered
-/// with the usage line, for which no memory is taken.
+/// with the first fault: FILE is `hosts` or `script`, K the line, N and NAME the fault's number and
+/// name. Any other words are answered with the usage line, for which no memory is taken.
 pub fn run<C: Cabinet, K: Sink>(
     alloc: Global,
     words: &[Bytes],
