@@ -6,7 +6,8 @@ Each is taken by `rt ci CRATE` in a copy, with what stands below it kept: first 
 the tests, and last with the edits too. A comment that is new each time keeps earlier runs from being used. It takes
 the time of the gate, and that of the proofs alone once more.
 
-usage: bench/gate.py [CRATE..]     all crates, if none is named; those below must be among them
+usage: bench/gate.py [--to STAGE] [CRATE..]     all crates, if none is named; those below must be among them
+With `--to proof` or `--to tests` the stages behind that are left out.
 """
 import concurrent.futures
 import glob
@@ -87,13 +88,17 @@ def levels(below):
 
 
 def main():
-    below = crates_below()
-    if sys.argv[1:]:
-        below = {name: [one for one in below[name] if one in sys.argv[1:]] for name in sys.argv[1:]}
+    below, names = crates_below(), sys.argv[1:]
+    stages = STAGES
+    if names[:1] == ["--to"]:
+        stages = STAGES[: STAGES.index(names[1]) + 1]
+        names = names[2:]
+    if names:
+        below = {name: [one for one in below[name] if one in names] for name in names}
     room = tempfile.mkdtemp()
     salt = f"measured at {time.time_ns()}"
     cost, walls, failed = {}, {}, []
-    for stage in STAGES:
+    for stage in stages:
         place = copy(room, stage, salt)
         start = time.monotonic()
         for group in levels(below):
@@ -103,21 +108,22 @@ def main():
                     if not passed:
                         failed.append(f"{stage} of {name}: {place}/{name}.log")
         walls[stage] = time.monotonic() - start
-    print("| Crate | Lines of src, specs, proofs | Proof | Tests | Edits | Number of edits |")
-    print("|---|---|---|---|---|---|")
-    total = dict.fromkeys(STAGES, 0.0)
+    print("| Crate | Lines of src, specs, proofs | " + " | ".join(stage.capitalize() for stage in stages) + " | Number of edits |")
+    print("|---|---|" + "---|" * len(stages) + "---|")
+    total = dict.fromkeys(stages, 0.0)
     for name in below:
         lines = ", ".join(str(count(name, pattern)) for pattern in ("src/**/*.rt", "specs/**/*.antt", "proofs/**/*.antt"))
-        seconds = {"proof": cost["proof", name], "edits": cost["edits", name]}
-        # the run with tests proves the crate once more
-        seconds["tests"] = max(0.0, cost["tests", name] - cost["proof", name])
-        for stage in STAGES:
+        seconds = {stage: cost[stage, name] for stage in stages}
+        if "tests" in stages:
+            # the run with tests proves the crate once more
+            seconds["tests"] = max(0.0, cost["tests", name] - cost["proof", name])
+        for stage in stages:
             total[stage] += seconds[stage]
         edits = len(glob.glob(f"{TOP}/crates/{name}/must-fail/*.edit"))
-        print(f"| {name} | {lines} | " + " | ".join(f"{seconds[stage]:.0f} s" for stage in STAGES) + f" | {edits} |")
+        print(f"| {name} | {lines} | " + " | ".join(f"{seconds[stage]:.0f} s" for stage in stages) + f" | {edits} |")
     print()
-    print(", ".join(f"{stage} {total[stage] / 60:.0f} min" for stage in STAGES) + f", together {sum(total.values()) / 60:.0f} min of processor time")
-    print(f"{os.cpu_count()} processors, {sum(walls.values()) / 60:.0f} min of wall time with the proofs once more")
+    print(", ".join(f"{stage} {total[stage] / 60:.0f} min" for stage in stages) + f", together {sum(total.values()) / 60:.0f} min of processor time")
+    print(f"{os.cpu_count()} processors, {sum(walls.values()) / 60:.0f} min of wall time")
     for one in failed:
         print(f"FAILED {one}")
     if not failed:
