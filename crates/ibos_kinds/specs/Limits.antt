@@ -1,4 +1,5 @@
--- The ranges of an act's fields: 64 tabs, 32 instances a tab, and the bytes that a key writes.
+-- The ranges of an act's fields: 64 tabs, 32 instances a tab, 16 flows an instance, and the bytes
+-- that a key writes.
 use Rattle.std.specs.Prelude.{◌<◌, ◌≤◌}
 use Rattle.ibos_kinds.specs.declared.names.Instance.{Instance}
 use Rattle.ibos_kinds.specs.declared.names.Key.{Key}
@@ -6,6 +7,8 @@ use Rattle.ibos_kinds.specs.declared.names.Key.TheVariants.{Byte, Enter, Back}
 use Rattle.ibos_kinds.specs.declared.act.Act.{Act}
 use Rattle.ibos_kinds.specs.declared.act.Act.TheVariants.{Start, Switch, Close, Press, Click, Look}
 use Rattle.ibos_kinds.specs.declared.act.Act.TheVariants.{Go, Draw, CookieSet, CookieGet}
+use Rattle.ibos_kinds.specs.declared.act.Act.TheVariants.{Bind, Unbind, Done, RegRead, RegWrite}
+use Rattle.ibos_kinds.specs.declared.act.Act.TheVariants.{RxPost, RxBell, WireIn}
 
 -- an instance that a run can reach
 abbrev pub IsNamed : Instance → Type 0
@@ -29,3 +32,11 @@ Fits (Go who url) = IsNamed who
 Fits (Draw who row col height width pixels) = IsNamed who
 Fits (CookieSet side who text) = IsNamed who
 Fits (CookieGet side who) = IsNamed who
+Fits (Bind who proto) = IsNamed who
+Fits (Unbind who flow) = IsNamed who × (flow < 16)
+Fits (Done who) = IsNamed who
+Fits (RegRead offset) = Unit {0}
+Fits (RegWrite offset value) = Unit {0}
+Fits (RxPost slot handle) = Unit {0}
+Fits RxBell = Unit {0}
+Fits (WireIn frame) = Unit {0}

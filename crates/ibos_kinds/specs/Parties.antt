@@ -4,9 +4,13 @@ use Rattle.ibos_kinds.specs.declared.names.Instance.{Instance}
 use Rattle.ibos_kinds.specs.declared.act.Act.{Act}
 use Rattle.ibos_kinds.specs.declared.act.Act.TheVariants.{Start, Switch, Close, Press, Click, Look}
 use Rattle.ibos_kinds.specs.declared.act.Act.TheVariants.{Go, Draw, CookieSet, CookieGet}
+use Rattle.ibos_kinds.specs.declared.act.Act.TheVariants.{Bind, Unbind, Done, RegRead, RegWrite}
+use Rattle.ibos_kinds.specs.declared.act.Act.TheVariants.{RxPost, RxBell, WireIn}
 use Rattle.ibos_kinds.specs.declared.outcome.Item.{Item}
 use Rattle.ibos_kinds.specs.declared.outcome.Item.TheVariants.{Opened, Moved, Ended, KeyTo, ClickTo}
-use Rattle.ibos_kinds.specs.declared.outcome.Item.TheVariants.{Cookies, RowIs}
+use Rattle.ibos_kinds.specs.declared.outcome.Item.TheVariants.{Cookies, RowIs, FlowIs}
+use Rattle.ibos_kinds.specs.declared.outcome.Item.TheVariants.{Arrived, ValueIs, LentIs, VerdictIs}
+use Rattle.ibos_kinds.specs.declared.outcome.Item.TheVariants.{Dropped}
 use Rattle.ibos_kinds.specs.declared.party.Party.{Party}
 use Rattle.ibos_kinds.specs.declared.party.Party.TheVariants.{Page, Driver, Store, User, Wire, Log}
 
@@ -22,6 +26,14 @@ actor (Go who url) = Page who
 actor (Draw who row col height width pixels) = Page who
 actor (CookieSet side who text) = Page who
 actor (CookieGet side who) = Page who
+actor (Bind who proto) = Page who
+actor (Unbind who flow) = Page who
+actor (Done who) = Page who
+actor (RegRead offset) = Driver
+actor (RegWrite offset value) = Driver
+actor (RxPost slot handle) = Driver
+actor RxBell = Driver
+actor (WireIn frame) = Wire
 
 -- the party that an item is addressed to
 abbrev pub addressee : Item → Party
@@ -32,6 +44,12 @@ addressee (KeyTo who byte) = Page who
 addressee (ClickTo who row col) = Page who
 addressee (Cookies who text) = Page who
 addressee (RowIs row text) = User
+addressee (FlowIs who flow port remote) = Page who
+addressee (Arrived who flow bytes) = Page who
+addressee (ValueIs value) = Driver
+addressee (LentIs handle) = Driver
+addressee (VerdictIs verdict) = Wire
+addressee (Dropped rule) = Log
 
 abbrev pub same : Instance → Instance → Bool
 same p q = p.tab == q.tab && p.ord == q.ord

@@ -2,7 +2,7 @@
 ghost use Rattle.std.specs.Prelude.{◌↔◌, IsTrue, ◌<◌};
 ghost use Rattle.ibos_kinds.specs.Limits.{Fits, IsKey, IsNamed};
 
-use crate::{Bytes, Instance, Key, Side};
+use crate::{Bytes, Handle, Instance, Key, Proto, Side};
 
 /// One event of one actor. The user opens, switches and closes tabs, presses keys, clicks and
 /// looks; the processes of an instance do the rest.
@@ -58,11 +58,45 @@ pub enum Act {
         side: Side,
         who: Instance,
     },
+    /// A network process binds a flow to the endpoint of its origin.
+    Bind {
+        who: Instance,
+        proto: Proto,
+    },
+    /// A network process closes a flow of its instance.
+    Unbind {
+        who: Instance,
+        flow: u8,
+    },
+    /// A network process is done with the oldest frame that it hasn't read.
+    Done {
+        who: Instance,
+    },
+    /// The driver reads the register at an offset.
+    RegRead {
+        offset: u32,
+    },
+    /// The driver writes the register at an offset.
+    RegWrite {
+        offset: u32,
+        value: u32,
+    },
+    /// The driver posts a receive buffer at a slot of the receive ring.
+    RxPost {
+        slot: u32,
+        handle: Handle,
+    },
+    /// The driver asks for the frames that were received.
+    RxBell,
+    /// A frame comes from the wire, without its check sequence.
+    WireIn {
+        frame: Bytes,
+    },
 }
 
 impl Act {
-    /// Whether each field is in its range: tabs below 64, ordinals below 32, a key's byte 0x20 to
-    /// 0x7E.
+    /// Whether each field is in its range: tabs below 64, ordinals below 32, flows below 16, a key's
+    /// byte 0x20 to 0x7E.
     pub fn fits(&self) -> bool
         ensures { IsTrue result ↔ Fits self.now }
     {
@@ -77,6 +111,12 @@ impl Act {
             Act::Draw { who, .. } => is_named(*who),
             Act::CookieSet { who, .. } => is_named(*who),
             Act::CookieGet { who, .. } => is_named(*who),
+            Act::Bind { who, .. } => is_named(*who),
+            Act::Unbind { who, flow } => is_named(*who) && *flow < 16,
+            Act::Done { who } => is_named(*who),
+            Act::RegRead { .. } | Act::RegWrite { .. } => true,
+            Act::RxPost { .. } | Act::RxBell => true,
+            Act::WireIn { .. } => true,
         }
     }
 }

@@ -1,7 +1,7 @@
 // What an act brings: a head, and items for the parties.
 ghost use Rattle.std.specs.Prelude.{◌≡◌, [], ◌∷◌, ◌++◌, OnOk, OnErr};
 
-use crate::{Bytes, Instance, Memory, Rule};
+use crate::{Bytes, Endpoint, Handle, Instance, Memory, Rule, Verdict};
 use std::alloc::Global;
 use std::marker::Model;
 
@@ -29,6 +29,27 @@ pub enum Item {
     Cookies { who: Instance, text: Bytes },
     /// A row of the screen, which the user sees, without the spaces at its end.
     RowIs { row: u8, text: Bytes },
+    /// A flow that an instance bound: its number, its port on this machine, and its other end.
+    FlowIs {
+        who: Instance,
+        flow: u8,
+        port: u16,
+        remote: Endpoint,
+    },
+    /// A frame for a flow of an instance, whole and as the device received it.
+    Arrived {
+        who: Instance,
+        flow: u8,
+        bytes: Bytes,
+    },
+    /// The value of a register that the driver reads.
+    ValueIs { value: u32 },
+    /// A receive buffer that is the driver's again, under a new handle.
+    LentIs { handle: Handle },
+    /// What became of the frame that came from the wire.
+    VerdictIs { verdict: Verdict },
+    /// A received frame that no instance gets, for the rule that it breaks.
+    Dropped { rule: Rule },
 }
 
 /// Items in their order, which contracts see as the list of them.

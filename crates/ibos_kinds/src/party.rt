@@ -32,6 +32,12 @@ pub fn actor(act: &Act) -> Party
         Act::Draw { who, .. } => Party::Page(*who),
         Act::CookieSet { who, .. } => Party::Page(*who),
         Act::CookieGet { who, .. } => Party::Page(*who),
+        Act::Bind { who, .. } => Party::Page(*who),
+        Act::Unbind { who, .. } => Party::Page(*who),
+        Act::Done { who } => Party::Page(*who),
+        Act::RegRead { .. } | Act::RegWrite { .. } => Party::Driver,
+        Act::RxPost { .. } | Act::RxBell => Party::Driver,
+        Act::WireIn { .. } => Party::Wire,
     }
 }
 
@@ -47,5 +53,11 @@ pub fn addressee(item: &Item) -> Party
         Item::ClickTo { who, .. } => Party::Page(*who),
         Item::Cookies { who, .. } => Party::Page(*who),
         Item::RowIs { .. } => Party::User,
+        Item::FlowIs { who, .. } => Party::Page(*who),
+        Item::Arrived { who, .. } => Party::Page(*who),
+        Item::ValueIs { .. } => Party::Driver,
+        Item::LentIs { .. } => Party::Driver,
+        Item::VerdictIs { .. } => Party::Wire,
+        Item::Dropped { .. } => Party::Log,
     }
 }
