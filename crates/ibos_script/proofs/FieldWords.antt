@@ -9,7 +9,7 @@ use Rattle.std.proofs.lemmas.Fmt.{digits_decimal, digits_value-decimal, decimal_
 use Rattle.std.proofs.lemmas.Str.Parse.{IsDigitsTest, FoldsDigits, IsNumeralModel, numerals_by_fold}
 use Rattle.std.proofs.lemmas.List.Sums.{list_all-from_AllPass}
 use Rattle.std.proofs.lemmas.List.Folds.{list_all-append}
-use Rattle.hex.specs.Hex.{IsBytes, encode_lower, is_hex_digit}
+use Rattle.hex.specs.Hex.{IsBytes, encode_lower, encode_with, is_hex_digit}
 use Rattle.hex.proofs.HexLemmas.{decode_of-encode_lower, decode_of-ok, decode_sized-encode_lower}
 use Rattle.ibos_kinds.specs.declared.names.Instance.{Instance}
 use Rattle.ibos_kinds.specs.declared.names.Key.{Key}
@@ -17,8 +17,8 @@ use Rattle.ibos_kinds.specs.declared.names.Key.TheVariants.{Byte, Enter, Back}
 use Rattle.ibos_kinds.specs.Limits.{IsKey, IsNamed}
 use Rattle.ibos_text.specs.Parts.{len_before}
 use Rattle.ibos_script.specs.Fields.{is_digit, value_of, number_in, instance_parted, instance_in, key_in, hex_in}
-use Rattle.ibos_script.specs.Printed.{instance_text}
-use Rattle.ibos_script.specs.Spelled.{key_text, hex_text}
+use Rattle.ibos_script.specs.Printed.{instance_text, or_dash, hex_text}
+use Rattle.ibos_script.specs.Spelled.{key_text}
 use Rattle.ibos_script.proofs.Words.{IsWord, is_graph, all_weaker, len_before-front}
 
 -- ---- numbers
@@ -137,11 +137,12 @@ other_length (b ∷ text) (c ∷ word) other = by_first (c == b) (other_length t
     by_first false h = refl
 
 pub hex_word : (bytes : List ℕ) → IsBytes bytes → IsWord (hex_text bytes)
+unfolding hex_text or_dash encode_with
 hex_word [] small = record { graph = refl; some = omega arith }
 hex_word (b ∷ bytes) small = encoded_word b bytes small
 
 pub hex_read : (bytes : List ℕ) → IsBytes bytes → hex_in (hex_text bytes) ≡ Some bytes
-unfolding hex_in
+unfolding hex_in hex_text or_dash encode_with
 hex_read [] small = refl
 hex_read (b ∷ bytes) small =
     let ok = decode_of-ok (encode_lower (b ∷ bytes)) (b ∷ bytes) (decode_of-encode_lower (b ∷ bytes) small) in

@@ -1,6 +1,7 @@
 mod CutTexts
-mod CellLines
+mod ToldLines
 mod Actors
 mod Words
 mod FieldWords
+mod HexNumbers
 mod SpelledActs

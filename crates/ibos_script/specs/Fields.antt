@@ -2,7 +2,9 @@
 use Rattle.std.specs.Prelude.{ℕ, ◌+◌, ◌*◌, ◌-◌, List, [], ◌∷◌, Bool, ◌&&◌, nat_lt, nat_le, length}
 use Rattle.std.specs.Prelude.{take, drop, fold, codes, Option, Some, None, Result, Ok, Err}
 use Rattle.std.specs.Prelude.{if◌then◌else◌}
+use Rattle.std.specs.Char.{is_digit as is_digit_in}
 use Rattle.std.specs.List.{list_all}
+use Rattle.std.specs.Str.Parse.{digits_value}
 use Rattle.hex.specs.Hex.{decode_of, decode_sized}
 use Rattle.hex.specs.declared.error.FromHexError.{FromHexError}
 use Rattle.ibos_kinds.specs.declared.names.Instance.{Instance}
@@ -25,6 +27,19 @@ number_in bound word =
     && nat_lt (value_of word) bound
     then Some (value_of word)
     else None
+
+-- 1 to 8 hexadecimal digits
+unfoldable pub hex_digits_in : List ℕ → Option ℕ
+hex_digits_in digits =
+    if nat_lt 0 (length digits) && nat_le (length digits) 8
+    && list_all (λ b. is_digit_in b 16) digits
+    then Some (digits_value 16 digits)
+    else None
+
+-- a register's offset or value: `0x`, and then such digits
+unfoldable pub hex_number_in : List ℕ → Option ℕ
+hex_number_in word =
+    if is_word (codes "0x") (take 2 word) then hex_digits_in (drop 2 word) else None
 
 abbrev pub instance_named : Option ℕ → Option ℕ → Option Instance
 instance_named (Some tab) (Some ord) = Some (record { tab = tab; ord = ord })

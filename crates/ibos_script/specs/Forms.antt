@@ -10,7 +10,7 @@ use Rattle.ibos_script.specs.declared.fault.LineFault.TheVariants.{Count, Number
 use Rattle.ibos_script.specs.declared.lines.Line.{Line}
 use Rattle.ibos_script.specs.declared.lines.Line.TheVariants.{Act as ActLine}
 use Rattle.ibos_text.specs.Words.{after_spaces, first_word, after_word, has_word}
-use Rattle.ibos_script.specs.Fields.{number_in, instance_in, key_in, hex_in}
+use Rattle.ibos_script.specs.Fields.{number_in, hex_number_in, instance_in, key_in, hex_in}
 
 -- The fields that an A wants to be an act.
 pub record Fields (A : Type 0) : Type 0 where
@@ -48,6 +48,18 @@ tab = field Number (number_in 64)
 -- a number below 2^32
 abbrev pub number : {A : Type 0} → Fields A → Fields (ℕ → A)
 number = field Number (number_in 4294967296)
+
+-- a flow of an instance
+abbrev pub flow : {A : Type 0} → Fields A → Fields (ℕ → A)
+flow = field Number (number_in 16)
+
+-- the name of a receive buffer
+abbrev pub name : {A : Type 0} → Fields A → Fields (ℕ → A)
+name = field Number (number_in 256)
+
+-- the offset or the value of a register
+abbrev pub hex_number : {A : Type 0} → Fields A → Fields (ℕ → A)
+hex_number = field Number hex_number_in
 
 abbrev pub key : {A : Type 0} → Fields A → Fields (Key → A)
 key = field Number key_in

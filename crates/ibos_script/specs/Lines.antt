@@ -4,24 +4,30 @@ use Rattle.std.specs.Prelude.{ℕ, List, [], ◌∷◌, Bool, false, not, ◌==�
 use Rattle.std.specs.Prelude.{length, codes, Option, Some, None, option_map, Result, Ok, Err}
 use Rattle.std.specs.Prelude.{if◌then◌else◌}
 use Rattle.std.specs.List.{list_all}
+use Rattle.ibos_kinds.specs.declared.names.Proto.TheVariants.{Tcp, Udp}
 use Rattle.ibos_kinds.specs.declared.names.Side.{Side}
 use Rattle.ibos_kinds.specs.declared.names.Side.TheVariants.{Page, Net}
 use Rattle.ibos_kinds.specs.declared.party.Party.{Party}
-use Rattle.ibos_kinds.specs.declared.party.Party.TheVariants.{Page as PageParty, User}
+use Rattle.ibos_kinds.specs.declared.party.Party.TheVariants.{Page as PageParty, Driver}
+use Rattle.ibos_kinds.specs.declared.party.Party.TheVariants.{User, Wire}
+use Rattle.ibos_kinds.specs.declared.act.Act.{Act}
 use Rattle.ibos_kinds.specs.declared.act.Act.TheVariants.{Start, Switch, Close, Press, Click, Look}
 use Rattle.ibos_kinds.specs.declared.act.Act.TheVariants.{Go, Draw, CookieSet, CookieGet}
+use Rattle.ibos_kinds.specs.declared.act.Act.TheVariants.{Bind, Unbind, Done, RegRead, RegWrite}
+use Rattle.ibos_kinds.specs.declared.act.Act.TheVariants.{RxPost, RxBell, WireIn}
 use Rattle.ibos_kinds.specs.Limits.{Fits}
 use Rattle.ibos_script.specs.declared.fault.LineFault.{LineFault}
 use Rattle.ibos_script.specs.declared.fault.LineFault.TheVariants.{Long, Byte, Word}
 use Rattle.ibos_script.specs.declared.lines.Line.{Line}
-use Rattle.ibos_script.specs.declared.lines.Line.TheVariants.{Act}
+use Rattle.ibos_script.specs.declared.lines.Line.TheVariants.{Act as ActLine}
 use Rattle.ibos_text.specs.Words.{first_word, after_word, has_word, is_word}
 use Rattle.ibos_script.specs.Fields.{instance_in}
-use Rattle.ibos_script.specs.Forms.{nothing, rest, tab, number, key, hex, form, form_of}
+use Rattle.ibos_script.specs.Forms.{nothing, rest, tab, number, flow, name, hex_number, key, hex}
+use Rattle.ibos_script.specs.Forms.{form, form_of}
 
 -- the act that a line says is in its ranges
 abbrev pub LineFits : Line → Type 0
-LineFits (Act act) = Fits act
+LineFits (ActLine act) = Fits act
 
 -- behind `user`
 unfoldable pub user_in : List ℕ → List ℕ → Result Line LineFault
@@ -32,6 +38,32 @@ user_in command line =
     else if is_word (codes "key") command then form (key nothing) Press line
     else if is_word (codes "click") command then form (number (number nothing)) Click line
     else if is_word (codes "look") command then form nothing Look line
+    else Err Word
+
+-- behind `dev bell`
+unfoldable pub bell_in : List ℕ → List ℕ → Result Line LineFault
+bell_in ring line =
+    if is_word (codes "rx") ring then form nothing RxBell line
+    else Err Word
+
+-- a receive buffer's post, its handle in two fields
+abbrev pub posted : ℕ → ℕ → ℕ → Act
+posted slot name turn = RxPost slot (record { name = name; turn = turn })
+
+-- behind `dev`
+unfoldable pub dev_in : List ℕ → List ℕ → Result Line LineFault
+dev_in command line =
+    if is_word (codes "read") command then form (hex_number nothing) RegRead line
+    else if is_word (codes "write") command
+    then form (hex_number (hex_number nothing)) RegWrite line
+    else if is_word (codes "rx") command then form (number (name (number nothing))) posted line
+    else if is_word (codes "bell") command then bell_in (first_word line) (after_word line)
+    else Err Word
+
+-- behind `wire`
+unfoldable pub wire_in : List ℕ → List ℕ → Result Line LineFault
+wire_in command line =
+    if is_word (codes "in") command then form (hex nothing) WireIn line
     else Err Word
 
 -- behind `page` or `net` and an instance's name: `cookie`
@@ -51,10 +83,20 @@ page_in who command line =
     then cookie_in Page who (first_word line) (after_word line)
     else Err Word
 
+-- behind `net` and an instance's name: `flow`
+unfoldable pub flow_in : List ℕ → List ℕ → List ℕ → Result Line LineFault
+flow_in who proto line =
+    if is_word (codes "tcp") proto then form_of nothing (λ who. Bind who Tcp) who line
+    else if is_word (codes "udp") proto then form_of nothing (λ who. Bind who Udp) who line
+    else Err Word
+
 -- behind `net` and an instance's name
 unfoldable pub net_in : List ℕ → List ℕ → List ℕ → Result Line LineFault
 net_in who command line =
-    if is_word (codes "cookie") command
+    if is_word (codes "flow") command then flow_in who (first_word line) (after_word line)
+    else if is_word (codes "close") command then form_of (flow nothing) Unbind who line
+    else if is_word (codes "done") command then form_of nothing Done who line
+    else if is_word (codes "cookie") command
     then cookie_in Net who (first_word line) (after_word line)
     else Err Word
 
@@ -68,14 +110,19 @@ named_in next line =
 unfoldable pub act_in : List ℕ → List ℕ → Result Line LineFault
 act_in actor line =
     if is_word (codes "user") actor then user_in (first_word line) (after_word line)
+    else if is_word (codes "dev") actor then dev_in (first_word line) (after_word line)
+    else if is_word (codes "wire") actor then wire_in (first_word line) (after_word line)
     else if is_word (codes "page") actor then named_in page_in line
     else if is_word (codes "net") actor then named_in net_in line
     else Err Word
 
--- the party that the first words of a line name: `user`, or `page` or `net` and an instance
+-- the party that the first words of a line name: `user`, `dev` or `wire`, or `page` or `net` and an
+-- instance
 unfoldable pub party_in : List ℕ → Option Party
 party_in line =
     if is_word (codes "user") (first_word line) then Some User
+    else if is_word (codes "dev") (first_word line) then Some Driver
+    else if is_word (codes "wire") (first_word line) then Some Wire
     else if is_word (codes "page") (first_word line) || is_word (codes "net") (first_word line)
     then option_map PageParty (instance_in (first_word (after_word line)))
     else None

@@ -1,14 +1,19 @@
 -- The text of an outcome: one line for its head and one for each item, each with the act's number.
 use Rattle.std.specs.Prelude.{◌≡◌, ℕ, List, [], ◌∷◌, ◌++◌, codes, decimal, Result, Ok as Done, Err}
 use Rattle.std.specs.Borrow.{Bor}
+use Rattle.std.specs.Int.{byte_at, bytes_high_first}
 use Rattle.std.specs.List.{flat_map}
 use Rattle.hex.specs.Hex.{encode_lower}
 use Rattle.ibos_kinds.specs.declared.names.Instance.{Instance}
+use Rattle.ibos_kinds.specs.declared.names.Verdict.{Verdict}
+use Rattle.ibos_kinds.specs.declared.names.Verdict.TheVariants.{Filtered, Missed, Heard}
 use Rattle.ibos_kinds.specs.declared.outcome.Head.{Head}
 use Rattle.ibos_kinds.specs.declared.outcome.Head.TheVariants.{Ok, Denied}
 use Rattle.ibos_kinds.specs.declared.outcome.Item.{Item}
 use Rattle.ibos_kinds.specs.declared.outcome.Item.TheVariants.{Opened, Moved, Ended, KeyTo, ClickTo}
-use Rattle.ibos_kinds.specs.declared.outcome.Item.TheVariants.{Cookies, RowIs}
+use Rattle.ibos_kinds.specs.declared.outcome.Item.TheVariants.{Cookies, RowIs, FlowIs}
+use Rattle.ibos_kinds.specs.declared.outcome.Item.TheVariants.{Arrived, ValueIs, LentIs, VerdictIs}
+use Rattle.ibos_kinds.specs.declared.outcome.Item.TheVariants.{Dropped}
 use Rattle.ibos_kinds.specs.declared.outcome.Outcome.{Outcome}
 use Rattle.ibos_kinds.specs.declared.party.Party.{Party}
 use Rattle.ibos_kinds.specs.declared.party.Party.TheVariants.{Page, Driver, Store, User, Wire, Log}
@@ -32,6 +37,25 @@ unfoldable pub or_dash : List ℕ → List ℕ
 or_dash [] = codes "-"
 or_dash (b ∷ bytes) = b ∷ bytes
 
+-- bytes: two lower-case digits for each, or `-` for none
+unfoldable pub hex_text : List ℕ → List ℕ
+hex_text bytes = or_dash (encode_lower bytes)
+
+-- a register's value: eight digits, the highest first
+unfoldable pub value_text : ℕ → List ℕ
+value_text value = encode_lower (bytes_high_first 4 value)
+
+-- an IPv4 address in dotted decimal, its highest byte first
+unfoldable pub addr_text : ℕ → List ℕ
+addr_text addr =
+    decimal (byte_at 3 addr) ++ codes "." ++ decimal (byte_at 2 addr) ++ codes "."
+    ++ decimal (byte_at 1 addr) ++ codes "." ++ decimal (byte_at 0 addr)
+
+abbrev pub verdict_text : Verdict → List ℕ
+verdict_text Filtered = codes "filtered"
+verdict_text Missed = codes "missed"
+verdict_text Heard = codes "heard"
+
 -- a party's name
 abbrev pub party_text : Party → List ℕ
 party_text (Page who) = instance_text who
@@ -50,6 +74,14 @@ told_text (KeyTo who byte) = codes " key " ++ encode_lower (byte ∷ [])
 told_text (ClickTo who row col) = codes " click " ++ decimal row ++ codes " " ++ decimal col
 told_text (Cookies who text) = codes " cookies " ++ or_dash text
 told_text (RowIs row text) = codes " row " ++ decimal row ++ codes " |" ++ text
+told_text (FlowIs who flow port remote) = codes " flow " ++ decimal flow ++ codes " "
+    ++ decimal port ++ codes " " ++ addr_text remote.addr ++ codes " " ++ decimal remote.port
+told_text (Arrived who flow bytes) = codes " frame " ++ decimal flow ++ codes " " ++ hex_text bytes
+told_text (ValueIs value) = codes " value " ++ value_text value
+told_text (LentIs handle) = codes " lent " ++ decimal handle.name ++ codes " "
+    ++ decimal handle.turn
+told_text (VerdictIs verdict) = codes " " ++ verdict_text verdict
+told_text (Dropped rule) = codes " drop " ++ code_of rule ++ codes " " ++ name_of rule
 
 -- whom an item is for, and what it tells
 unfoldable pub item_text : Item → List ℕ

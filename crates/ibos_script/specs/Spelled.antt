@@ -5,13 +5,17 @@ use Rattle.hex.specs.Hex.{IsBytes, encode_lower}
 use Rattle.ibos_kinds.specs.declared.act.Act.{Act}
 use Rattle.ibos_kinds.specs.declared.act.Act.TheVariants.{Start, Switch, Close, Press, Click, Look}
 use Rattle.ibos_kinds.specs.declared.act.Act.TheVariants.{Go, Draw, CookieSet, CookieGet}
+use Rattle.ibos_kinds.specs.declared.act.Act.TheVariants.{Bind, Unbind, Done, RegRead, RegWrite}
+use Rattle.ibos_kinds.specs.declared.act.Act.TheVariants.{RxPost, RxBell, WireIn}
 use Rattle.ibos_kinds.specs.declared.names.Key.{Key}
 use Rattle.ibos_kinds.specs.declared.names.Key.TheVariants.{Byte, Enter, Back}
+use Rattle.ibos_kinds.specs.declared.names.Proto.{Proto}
+use Rattle.ibos_kinds.specs.declared.names.Proto.TheVariants.{Tcp, Udp}
 use Rattle.ibos_kinds.specs.declared.names.Side.{Side}
 use Rattle.ibos_kinds.specs.declared.names.Side.TheVariants.{Page, Net}
 use Rattle.ibos_text.specs.Words.{after_spaces}
 use Rattle.ibos_script.specs.Lines.{is_printable}
-use Rattle.ibos_script.specs.Printed.{instance_text}
+use Rattle.ibos_script.specs.Printed.{instance_text, hex_text, value_text}
 
 -- words with a space behind each, and then the last word or the rest of the line
 abbrev pub spaced : List (List ℕ) → List ℕ → List ℕ
@@ -27,10 +31,13 @@ abbrev pub side_text : Side → List ℕ
 side_text Page = codes "page"
 side_text Net = codes "net"
 
--- two digits for each byte, or `-` for none
-abbrev pub hex_text : List ℕ → List ℕ
-hex_text [] = codes "-"
-hex_text (b ∷ bytes) = encode_lower (b ∷ bytes)
+abbrev pub proto_text : Proto → List ℕ
+proto_text Tcp = codes "tcp"
+proto_text Udp = codes "udp"
+
+-- a register's offset or value, in eight digits
+unfoldable pub hex_number_text : ℕ → List ℕ
+hex_number_text n = codes "0x" ++ value_text n
 
 abbrev pub spelled : Act → List ℕ
 spelled (Start tab url) = spaced (codes "user" ∷ codes "open" ∷ decimal tab ∷ []) url
@@ -47,6 +54,18 @@ spelled (CookieSet side who text) =
     spaced (side_text side ∷ instance_text who ∷ codes "cookie" ∷ codes "set" ∷ []) text
 spelled (CookieGet side who) = spaced (side_text side ∷ instance_text who ∷ codes "cookie"
     ∷ []) (codes "get")
+spelled (Bind who proto) = spaced (codes "net" ∷ instance_text who ∷ codes "flow" ∷ [])
+    (proto_text proto)
+spelled (Unbind who flow) = spaced (codes "net" ∷ instance_text who ∷ codes "close" ∷ [])
+    (decimal flow)
+spelled (Done who) = spaced (codes "net" ∷ instance_text who ∷ []) (codes "done")
+spelled (RegRead offset) = spaced (codes "dev" ∷ codes "read" ∷ []) (hex_number_text offset)
+spelled (RegWrite offset value) = spaced (codes "dev" ∷ codes "write" ∷ hex_number_text offset
+    ∷ []) (hex_number_text value)
+spelled (RxPost slot handle) = spaced (codes "dev" ∷ codes "rx" ∷ decimal slot
+    ∷ decimal handle.name ∷ []) (decimal handle.turn)
+spelled RxBell = spaced (codes "dev" ∷ codes "bell" ∷ []) (codes "rx")
+spelled (WireIn frame) = spaced (codes "wire" ∷ codes "in" ∷ []) (hex_text frame)
 
 -- the rest of a line: printable, and no space first
 abbrev pub IsRest : List ℕ → Type 0
@@ -55,9 +74,22 @@ IsRest text = (list_all is_printable text ≡ true) × (after_spaces text ≡ te
 -- the fields have the values of their types, and can stand in a line
 abbrev pub IsSpellable : Act → Type 0
 IsSpellable (Start tab url) = IsRest url
+IsSpellable (Switch tab) = Unit {0}
+IsSpellable (Close tab) = Unit {0}
+IsSpellable (Press key) = Unit {0}
 IsSpellable (Click row col) = (row < 2 ^ 32) × (col < 2 ^ 32)
+IsSpellable Look = Unit {0}
 IsSpellable (Go who url) = IsRest url
 IsSpellable (Draw who row col height width pixels) =
     (row < 2 ^ 32) × (col < 2 ^ 32) × (height < 2 ^ 32) × (width < 2 ^ 32) × IsBytes pixels
 IsSpellable (CookieSet side who text) = IsRest text
-IsSpellable act = Unit {0}
+IsSpellable (CookieGet side who) = Unit {0}
+IsSpellable (Bind who proto) = Unit {0}
+IsSpellable (Unbind who flow) = Unit {0}
+IsSpellable (Done who) = Unit {0}
+IsSpellable (RegRead offset) = offset < 2 ^ 32
+IsSpellable (RegWrite offset value) = (offset < 2 ^ 32) × (value < 2 ^ 32)
+IsSpellable (RxPost slot handle) =
+    (slot < 2 ^ 32) × (handle.name < 256) × (handle.turn < 2 ^ 32)
+IsSpellable RxBell = Unit {0}
+IsSpellable (WireIn frame) = IsBytes frame

@@ -1,9 +1,13 @@
 // The fields of a line, each read from its word.
 ghost use Rattle.std.specs.Prelude.{◌≡◌, ◌≤◌, ◌<◌, ◌^◌, None, Some, true, false, length};
 ghost use Rattle.std.specs.Prelude.{MatchOption, MatchResult, IfOk, IfSome};
+ghost use Rattle.std.specs.Char.{digit_value, is_digit as is_digit_in};
 ghost use Rattle.std.specs.List.{list_all};
+ghost use Rattle.std.specs.Option.{SomeIff};
+ghost use Rattle.std.specs.Str.Parse.{digits_value};
 ghost use Rattle.ibos_kinds.specs.Limits.{IsKey, IsNamed};
-ghost use Rattle.ibos_script.specs.Fields.{number_in, instance_in, key_in, hex_in, is_digit};
+ghost use Rattle.ibos_script.specs.Fields.{number_in, hex_number_in, hex_digits_in};
+ghost use Rattle.ibos_script.specs.Fields.{instance_in, key_in, hex_in, is_digit};
 ghost use Rattle.ibos_script.specs.Fields as spec;
 
 use hex::FromHexError;
@@ -12,6 +16,8 @@ use ibos_text::len_before;
 use std::alloc::Global;
 
 const MAX_DIGITS: usize = 10;
+
+const MAX_HEX_DIGITS: usize = 8;
 
 /// A decimal number below the bound. Leading zeros count among its digits, of which there are at
 /// most ten.
@@ -42,6 +48,47 @@ fn value_of(word: &[u8]) -> Option<u64>
         value = 10 * value + u64::from(*b - b'0');
     }
     Some(value)
+}
+
+/// A register's offset or value, as in `0x2818`: up to eight digits of either case.
+#[tactic(auto, unfolding(crate::specs::Fields::hex_number_in))]
+pub fn read_hex_number(word: &[u8]) -> Option<u32>
+    ensures { result ≡ hex_number_in word.now }
+{
+    match word {
+        [b'0', b'x', digits @ ..] => read_hex_digits(digits),
+        _ => None,
+    }
+}
+
+#[tactic(auto, unfolding(crate::specs::Fields::hex_digits_in))]
+fn read_hex_digits(digits: &[u8]) -> Option<u32>
+    ensures { result ≡ hex_digits_in digits.now }
+{
+    if digits.is_empty() || digits.len() > MAX_HEX_DIGITS {
+        return None;
+    }
+    hex_value_of(digits)
+}
+
+// The value of hexadecimal digits, if that is what the bytes are.
+fn hex_value_of(digits: &[u8]) -> Option<u32>
+    requires few { length digits.now ≤ 8 }
+    ensures digits { MatchOption result (list_all (λ b. is_digit_in b 16) digits.now ≡ false)
+        (λ _. list_all (λ b. is_digit_in b 16) digits.now ≡ true) }
+    ensures value { IfSome result (λ value. value ≡ digits_value 16 digits.now) }
+{
+    let mut value = 0u32;
+    for b in digits {
+        value = value * 16 + hex_digit_in(*b)?;
+    }
+    Some(value)
+}
+
+fn hex_digit_in(byte: u8) -> Option<u32>
+    ensures { SomeIff result (digit_value byte < 16) (digit_value byte) }
+{
+    char::from(byte).to_digit(16)
 }
 
 /// A page instance, as in `63.31`.

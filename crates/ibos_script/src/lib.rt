@@ -3,6 +3,7 @@
 
 mod fault;
 mod fields;
+mod forms;
 mod laws;
 mod lines;
 mod printed;

@@ -1,11 +1,12 @@
 // The text of an outcome.
-ghost use Rattle.std.specs.Prelude.{◌≡◌, ◌++◌, [], ◌∷◌, OnOk, OnErr, codes, decimal};
+ghost use Rattle.std.specs.Prelude.{◌≡◌, ◌++◌, [], ◌∷◌, IfOk, OnOk, OnErr, codes, decimal};
 ghost use Rattle.hex.specs.Hex.{encode_lower};
 ghost use Rattle.ibos_script.specs.Printed as spec;
 ghost use Rattle.ibos_script.specs.Printed.{Appends, IsCutShort, outcome_text, line_text};
 ghost use Rattle.ibos_script.specs.Printed.{head_text, item_text, items_text, pieces_text};
+ghost use Rattle.ibos_script.specs.Printed.{addr_text, hex_text, value_text, verdict_text};
 
-use ibos_kinds::{Bytes, Head, Instance, Item, Memory, Outcome};
+use ibos_kinds::{Bytes, Endpoint, Handle, Head, Instance, Item, Memory, Outcome, Verdict};
 use itoa::Buffer;
 use std::alloc::Global;
 
@@ -13,7 +14,7 @@ use std::alloc::Global;
 /// item. Where memory runs out a front of these lines is appended.
 #[tactic(auto, unfolding(crate::specs::Printed::outcome_text))]
 pub fn write_outcome(
-    _alloc: Global,
+    alloc: Global,
     number: u64,
     outcome: &Outcome,
     text: &mut Bytes,
@@ -24,15 +25,15 @@ pub fn write_outcome(
     let mut buffer = Buffer::new();
     let digits = buffer.format(number).as_bytes();
     write_head(digits, outcome.head, text)?;
-    write_items(digits, outcome.items.as_slice(), text)?;
+    write_items(alloc, digits, outcome.items.as_slice(), text)?;
     Ok(())
 }
 
-fn write_items(digits: &[u8], items: &[Item], text: &mut Bytes) -> Result<(), Memory>
+fn write_items(alloc: Global, digits: &[u8], items: &[Item], text: &mut Bytes) -> Result<(), Memory>
     ensures { Appends result text.old text.new (items_text digits.now items.now) }
 {
     for item in items {
-        write_item(digits, item, text)?;
+        write_item(alloc, digits, item, text)?;
     }
     Ok(())
 }
@@ -44,26 +45,14 @@ fn write_head(digits: &[u8], head: Head, text: &mut Bytes) -> Result<(), Memory>
     match head {
         Head::Ok => push_pieces(text, &[digits, b" ok\n"]),
         Head::Denied(rule) => {
-            write_denied(digits, rule.code().as_bytes(), rule.name().as_bytes(), text)
+            let (code, name) = (rule.code().as_bytes(), rule.name().as_bytes());
+            write_two(digits, b"denied ", code, name, text)
         }
     }
 }
 
-#[tactic(auto, unfolding(crate::specs::Printed::line_text))]
-fn write_denied<'a>(
-    digits: &'a [u8],
-    code: &'a [u8],
-    name: &'a [u8],
-    text: &mut Bytes,
-) -> Result<(), Memory>
-    ensures { Appends result text.old text.new
-        (line_text digits.now (codes "denied " ++ code.now ++ codes " " ++ name.now)) }
-{
-    push_pieces(text, &[digits, b" denied ", code, b" ", name, b"\n"])
-}
-
 #[tactic(auto, unfolding(crate::specs::Printed::line_text, crate::specs::Printed::item_text))]
-fn write_item(digits: &[u8], item: &Item, text: &mut Bytes) -> Result<(), Memory>
+fn write_item(alloc: Global, digits: &[u8], item: &Item, text: &mut Bytes) -> Result<(), Memory>
     ensures { Appends result text.old text.new (line_text digits.now (item_text item.now)) }
 {
     match item {
@@ -77,6 +66,22 @@ fn write_item(digits: &[u8], item: &Item, text: &mut Bytes) -> Result<(), Memory
             write_told(digits, *who, b" cookies ", cookies, text)
         }
         Item::RowIs { row, text: cells } => write_row(digits, *row, cells.as_slice(), text),
+        Item::FlowIs {
+            who,
+            flow,
+            port,
+            remote,
+        } => { write_flow(alloc, digits, *who, *flow, *port, *remote, text) }
+        Item::Arrived { who, flow, bytes } => {
+            write_frame(alloc, digits, *who, *flow, bytes.as_slice(), text)
+        }
+        Item::ValueIs { value } => write_one(digits, b"dev value ", &value_digits(*value), text),
+        Item::LentIs { handle } => write_lent(digits, *handle, text),
+        Item::VerdictIs { verdict } => write_one(digits, b"wire ", verdict_name(*verdict), text),
+        Item::Dropped { rule } => {
+            let (code, name) = (rule.code().as_bytes(), rule.name().as_bytes());
+            write_two(digits, b"log drop ", code, name, text)
+        }
     }
 }
 
@@ -125,8 +130,29 @@ fn hex_pair(byte: u8) -> [u8; 2]
     digits
 }
 
+// A register's value as eight hexadecimal digits.
+#[tactic(auto, unfolding(crate::specs::Printed::value_text))]
+fn value_digits(value: u32) -> [u8; 8]
+    ensures { result ≡ value_text value }
+{
+    let mut digits = [0u8; 8];
+    let Ok(()) = hex::encode_to_slice(value.to_be_bytes().as_slice(), &mut digits) else {
+        unreachable!()
+    };
+    digits
+}
+
+fn verdict_name(verdict: Verdict) -> &'static [u8]
+    ensures { result.now ≡ verdict_text verdict }
+{
+    match verdict {
+        Verdict::Filtered => b"filtered",
+        Verdict::Missed => b"missed",
+        Verdict::Heard => b"heard",
+    }
+}
+
 // A click on a cell of an instance's content.
-#[tactic(auto, unfolding(crate::specs::Printed::instance_text))]
 fn write_click(
     digits: &[u8],
     who: Instance,
@@ -138,35 +164,163 @@ fn write_click(
         (line_text digits.now (spec.instance_text who ++ codes " click "
         ++ decimal row ++ codes " " ++ decimal col)) }
 {
-    let mut tab = Buffer::new();
-    let mut ord = Buffer::new();
     let mut rows = Buffer::new();
     let mut cols = Buffer::new();
-    let tab = tab.format(who.tab).as_bytes();
-    let ord = ord.format(who.ord).as_bytes();
     let row = rows.format(row).as_bytes();
     let col = cols.format(col).as_bytes();
-    write_cell(digits, tab, ord, b" click ", row, col, text)
+    write_told_two(digits, who, b" click ", row, col, text)
+}
+
+// A flow of an instance, with its port here and its other end.
+fn write_flow(
+    alloc: Global,
+    digits: &[u8],
+    who: Instance,
+    flow: u8,
+    port: u16,
+    remote: Endpoint,
+    text: &mut Bytes,
+) -> Result<(), Memory>
+    ensures { Appends result text.old text.new
+        (line_text digits.now (spec.instance_text who ++ codes " flow " ++ decimal flow
+        ++ codes " " ++ decimal port ++ codes " " ++ addr_text remote.addr
+        ++ codes " " ++ decimal remote.port)) }
+{
+    let mut flows = Buffer::new();
+    let flow = flows.format(flow).as_bytes();
+    let ends = ends_of(alloc, port, remote)?;
+    write_told_two(digits, who, b" flow ", flow, ends.as_slice(), text)
+}
+
+// The ends of a flow: the port here, and address and port there.
+fn ends_of(alloc: Global, port: u16, remote: Endpoint) -> Result<Bytes, Memory>
+    ensures { IfOk result (λ ends. ends ≡ decimal port ++ codes " " ++ addr_text remote.addr
+        ++ codes " " ++ decimal remote.port) }
+{
+    let mut ports = Buffer::new();
+    let mut remotes = Buffer::new();
+    let port = ports.format(port).as_bytes();
+    let other = remotes.format(remote.port).as_bytes();
+    let addr = addr_digits(alloc, remote.addr)?;
+    joined(alloc, &[port, b" ", addr.as_slice(), b" ", other])
+}
+
+// An IPv4 address in dotted decimal.
+#[tactic(auto, unfolding(crate::specs::Printed::addr_text))]
+fn addr_digits(alloc: Global, addr: u32) -> Result<Bytes, Memory>
+    ensures { IfOk result (λ digits. digits ≡ addr_text addr) }
+{
+    let mut buffers = (Buffer::new(), Buffer::new(), Buffer::new(), Buffer::new());
+    let [a, b, c, d] = addr.to_be_bytes();
+    let a = buffers.0.format(a).as_bytes();
+    let b = buffers.1.format(b).as_bytes();
+    let c = buffers.2.format(c).as_bytes();
+    let d = buffers.3.format(d).as_bytes();
+    joined(alloc, &[a, b".", b, b".", c, b".", d])
+}
+
+// A frame for a flow of an instance.
+#[tactic(auto, unfolding(crate::specs::Printed::hex_text))]
+fn write_frame(
+    alloc: Global,
+    digits: &[u8],
+    who: Instance,
+    flow: u8,
+    bytes: &[u8],
+    text: &mut Bytes,
+) -> Result<(), Memory>
+    ensures { Appends result text.old text.new
+        (line_text digits.now (spec.instance_text who ++ codes " frame "
+        ++ decimal flow ++ codes " " ++ hex_text bytes.now)) }
+{
+    let mut flows = Buffer::new();
+    let flow = flows.format(flow).as_bytes();
+    let hex = hex::encode(alloc, bytes)?;
+    write_told_two(digits, who, b" frame ", flow, or_dash(hex.as_bytes()), text)
+}
+
+// A buffer that is the driver's again.
+fn write_lent(digits: &[u8], handle: Handle, text: &mut Bytes) -> Result<(), Memory>
+    ensures { Appends result text.old text.new
+        (line_text digits.now (codes "dev lent " ++ decimal handle.name ++ codes " "
+        ++ decimal handle.turn)) }
+{
+    let mut names = Buffer::new();
+    let mut turns = Buffer::new();
+    let name = names.format(handle.name).as_bytes();
+    let turn = turns.format(handle.turn).as_bytes();
+    write_two(digits, b"dev lent ", name, turn, text)
+}
+
+// A line to an instance that ends in two words.
+#[tactic(auto, unfolding(crate::specs::Printed::instance_text))]
+fn write_told_two(
+    digits: &[u8],
+    who: Instance,
+    word: &[u8],
+    first: &[u8],
+    second: &[u8],
+    text: &mut Bytes,
+) -> Result<(), Memory>
+    ensures { Appends result text.old text.new
+        (line_text digits.now (spec.instance_text who ++ word.now ++ first.now
+        ++ codes " " ++ second.now)) }
+{
+    let mut tab = Buffer::new();
+    let mut ord = Buffer::new();
+    let tab = tab.format(who.tab).as_bytes();
+    let ord = ord.format(who.ord).as_bytes();
+    write_told_parts(digits, tab, ord, word, first, second, text)
 }
 
 #[tactic(auto, unfolding(crate::specs::Printed::line_text))]
-fn write_cell<'a>(
+fn write_told_parts<'a>(
     digits: &'a [u8],
     tab: &'a [u8],
     ord: &'a [u8],
     word: &'a [u8],
-    row: &'a [u8],
-    col: &'a [u8],
+    first: &'a [u8],
+    second: &'a [u8],
     text: &mut Bytes,
 ) -> Result<(), Memory>
     ensures { Appends result text.old text.new
         (line_text digits.now ((tab.now ++ codes "." ++ ord.now)
-        ++ word.now ++ row.now ++ codes " " ++ col.now)) }
+        ++ word.now ++ first.now ++ codes " " ++ second.now)) }
 {
     push_pieces(
         text,
-        &[digits, b" ", tab, b".", ord, word, row, b" ", col, b"\n"],
+        &[
+            digits, b" ", tab, b".", ord, word, first, b" ", second, b"\n",
+        ],
     )
+}
+
+// A line that ends in one word.
+#[tactic(auto, unfolding(crate::specs::Printed::line_text))]
+fn write_one<'a>(
+    digits: &'a [u8],
+    said: &'a [u8],
+    word: &'a [u8],
+    text: &mut Bytes,
+) -> Result<(), Memory>
+    ensures { Appends result text.old text.new (line_text digits.now (said.now ++ word.now)) }
+{
+    push_pieces(text, &[digits, b" ", said, word, b"\n"])
+}
+
+// A line that ends in two words.
+#[tactic(auto, unfolding(crate::specs::Printed::line_text))]
+fn write_two<'a>(
+    digits: &'a [u8],
+    said: &'a [u8],
+    first: &'a [u8],
+    second: &'a [u8],
+    text: &mut Bytes,
+) -> Result<(), Memory>
+    ensures { Appends result text.old text.new
+        (line_text digits.now (said.now ++ first.now ++ codes " " ++ second.now)) }
+{
+    push_pieces(text, &[digits, b" ", said, first, b" ", second, b"\n"])
 }
 
 // A row of the screen.
@@ -197,6 +351,15 @@ fn or_dash(text: &[u8]) -> &[u8]
     ensures { result.now ≡ spec.or_dash text.now }
 {
     if text.is_empty() { b"-" } else { text }
+}
+
+// A text of pieces, one after another.
+fn joined(alloc: Global, pieces: &[&[u8]]) -> Result<Bytes, Memory>
+    ensures { IfOk result (λ text. text ≡ pieces_text pieces.now) }
+{
+    let mut text = Bytes::new(alloc);
+    push_pieces(&mut text, pieces)?;
+    Ok(text)
 }
 
 // Appends pieces, one after another.

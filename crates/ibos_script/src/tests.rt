@@ -1,5 +1,7 @@
 use super::*;
-use ibos_kinds::{Act, Bytes, Head, Instance, Item, Key, Memory, Outcome, Rule, Side};
+use ibos_kinds::{
+    Act, Bytes, Endpoint, Handle, Head, Instance, Item, Key, Memory, Outcome, Proto, Rule, Side,
+};
 use std::alloc::Global;
 use std::process::Abort;
 use std::test::Fail;
@@ -77,6 +79,44 @@ fn each_act_is_read(rt: HostRuntime) -> Result<(), Fail> {
 }
 
 #[test]
+fn each_act_of_the_network_is_read(rt: HostRuntime) -> Result<(), Fail> {
+    let alloc = rt.alloc();
+    let who = Instance { tab: 63, ord: 31 };
+    let (proto, flow) = (Proto::Udp, 15);
+    says(
+        &rt,
+        alloc,
+        b"net  63.31 flow udp ",
+        Act::Bind { who, proto },
+    );
+    says(
+        &rt,
+        alloc,
+        b"net 63.31 close 015",
+        Act::Unbind { who, flow },
+    );
+    let (offset, value) = (0xc0, 0xffff_fffe);
+    says(&rt, alloc, b"dev read 0xC0", Act::RegRead { offset });
+    says(
+        &rt,
+        alloc,
+        b"dev write 0x000000c0 0xFfFfFfFe",
+        Act::RegWrite { offset, value },
+    );
+    let handle = Handle { name: 255, turn: 7 };
+    let slot = 4294967295;
+    says(
+        &rt,
+        alloc,
+        b"dev rx 4294967295 255 7",
+        Act::RxPost { slot, handle },
+    );
+    let frame = bytes(alloc, b"JK")?;
+    says(&rt, alloc, b"wire in 4a4B", Act::WireIn { frame });
+    Ok(())
+}
+
+#[test]
 fn other_lines_are_passed_over_or_refused(rt: HostRuntime) {
     for line in [b"".as_slice(), b"   ", b"# user open 0 a"] {
         assert!(rt; read_line(rt.alloc(), line) == Ok(None));
@@ -98,6 +138,19 @@ fn other_lines_are_passed_over_or_refused(rt: HostRuntime) {
         (b"user key 7f", LineFault::Number),
         (b"page 0.0 draw 0 0 1 x 7", LineFault::Number),
         (b"page 0.0 draw 0 0 1 1 7", LineFault::Hex),
+        (b"net 99.0 flow icmp", LineFault::Word),
+        (b"net 99.0 flow tcp x", LineFault::Count),
+        (b"net 0.0 close 16", LineFault::Number),
+        (b"page 0.0 done", LineFault::Word),
+        (b"dev bell", LineFault::Word),
+        (b"dev bell rx 0", LineFault::Count),
+        (b"dev read 0X0", LineFault::Number),
+        (b"dev read 0x", LineFault::Number),
+        (b"dev write 0x0 0x000000001", LineFault::Number),
+        (b"dev rx 0 256 0", LineFault::Number),
+        (b"wire next", LineFault::Word),
+        (b"wire in", LineFault::Count),
+        (b"wire in 0x", LineFault::Hex),
     ];
     for (line, fault) in faults {
         assert!(rt; read_line(rt.alloc(), line) == Err(fault));
@@ -142,6 +195,21 @@ fn outcomes_are_printed_line_by_line(rt: HostRuntime) -> Result<(), Fail> {
         row: 24,
         text: bytes(alloc, b" x|")?,
     })?;
+    outcome.push(Item::FlowIs {
+        who: Instance { tab: 1, ord: 0 },
+        flow: 15,
+        port: 33280,
+        remote: Endpoint {
+            addr: 0xff00_0a01,
+            port: 8080,
+        },
+    })?;
+    outcome.push(Item::Arrived {
+        who: Instance { tab: 1, ord: 0 },
+        flow: 3,
+        bytes: Bytes::new(alloc),
+    })?;
+    outcome.push(Item::ValueIs { value: 0xc0ffee })?;
     outcome.push(Item::RowIs {
         row: 2,
         text: Bytes::new(alloc),
@@ -161,6 +229,9 @@ fn outcomes_are_printed_line_by_line(rt: HostRuntime) -> Result<(), Fail> {
         1024 63.31 key 0a\n\
         1024 0.0 click 21 79\n\
         1024 user row 24 | x|\n\
+        1024 1.0 flow 15 33280 255.0.10.1 8080\n\
+        1024 1.0 frame 3 -\n\
+        1024 dev value 00c0ffee\n\
         1024 user row 2 |\n\
         18446744073709551615 denied U8 LongOrigin\n";
     assert_eq!(rt; text.as_slice(), wanted.as_slice());

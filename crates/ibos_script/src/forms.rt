@@ -1,0 +1,341 @@
+// What stands behind the words of an actor and its command, and the act that it makes.
+ghost use Rattle.std.specs.Prelude.{◌≡◌, true, false, IfOk, MatchResult};
+ghost use Rattle.ibos_kinds.specs.declared.act.Act.TheVariants.{Start, Switch, Close, Press, Click};
+ghost use Rattle.ibos_kinds.specs.declared.act.Act.TheVariants.{Look, Go, Draw, CookieSet};
+ghost use Rattle.ibos_kinds.specs.declared.act.Act.TheVariants.{CookieGet, Bind, Unbind};
+ghost use Rattle.ibos_kinds.specs.declared.act.Act.TheVariants.{Done, RegRead, RegWrite, RxBell};
+ghost use Rattle.ibos_kinds.specs.declared.act.Act.TheVariants.{WireIn};
+ghost use Rattle.ibos_text.specs.Words.{after_spaces, first_word, after_word, has_word};
+ghost use Rattle.ibos_script.specs.Faults.{Gives};
+ghost use Rattle.ibos_script.specs.Forms.{nothing, rest, tab, number, flow, name, hex_number};
+ghost use Rattle.ibos_script.specs.Forms.{key, hex, form, form_of};
+ghost use Rattle.ibos_script.specs.Lines.{LineFits, posted};
+
+use crate::fault::LineFault;
+use crate::fields::{read_hex, read_hex_number, read_instance, read_key, read_number};
+use crate::lines::Line;
+use ibos_kinds::{Act, Bytes, Handle, Memory, Proto, Side};
+use ibos_text::{next_word, skip_spaces};
+use std::alloc::Global;
+
+// Numbers but for those of tabs, instances, flows and buffers are below this.
+const BOUND: u64 = 1 << 32;
+
+/// `T URL` behind `user open`.
+pub fn read_open(alloc: Global, line: &[u8]) -> Result<Line, LineFault>
+    ensures line { Gives result (form (tab rest) Start line.now) }
+    ensures fits { IfOk result LineFits }
+{
+    let (tab, rest) = take_word(line)?;
+    let Some(tab) = read_number(64, tab) else {
+        return Err(LineFault::Number);
+    };
+    let url = read_rest(alloc, rest)?;
+    Ok(Line::Act(Act::Start {
+        tab: tab as u8,
+        url,
+    }))
+}
+
+/// `T` behind `user switch`.
+pub fn read_switch(line: &[u8]) -> Result<Line, LineFault>
+    ensures line { Gives result (form (tab nothing) Switch line.now) }
+    ensures fits { IfOk result LineFits }
+{
+    let (tab, rest) = take_word(line)?;
+    end_line(rest)?;
+    let Some(tab) = read_number(64, tab) else {
+        return Err(LineFault::Number);
+    };
+    Ok(Line::Act(Act::Switch { tab: tab as u8 }))
+}
+
+/// `T` behind `user close`.
+pub fn read_close(line: &[u8]) -> Result<Line, LineFault>
+    ensures line { Gives result (form (tab nothing) Close line.now) }
+    ensures fits { IfOk result LineFits }
+{
+    let (tab, rest) = take_word(line)?;
+    end_line(rest)?;
+    let Some(tab) = read_number(64, tab) else {
+        return Err(LineFault::Number);
+    };
+    Ok(Line::Act(Act::Close { tab: tab as u8 }))
+}
+
+/// `K` behind `user key`.
+pub fn read_press(line: &[u8]) -> Result<Line, LineFault>
+    ensures line { Gives result (form (key nothing) Press line.now) }
+    ensures fits { IfOk result LineFits }
+{
+    let (key, rest) = take_word(line)?;
+    end_line(rest)?;
+    let Some(key) = read_key(key) else {
+        return Err(LineFault::Number);
+    };
+    Ok(Line::Act(Act::Press { key }))
+}
+
+/// `ROW COL` behind `user click`.
+pub fn read_click(line: &[u8]) -> Result<Line, LineFault>
+    ensures line { Gives result (form (number (number nothing)) Click line.now) }
+    ensures fits { IfOk result LineFits }
+{
+    let (row, rest) = take_word(line)?;
+    let (col, rest) = take_word(rest)?;
+    end_line(rest)?;
+    let Some(row) = read_number(BOUND, row) else {
+        return Err(LineFault::Number);
+    };
+    let Some(col) = read_number(BOUND, col) else {
+        return Err(LineFault::Number);
+    };
+    Ok(Line::Act(Act::Click {
+        row: row as u32,
+        col: col as u32,
+    }))
+}
+
+/// Nothing behind `user look`.
+pub fn read_look(line: &[u8]) -> Result<Line, LineFault>
+    ensures line { Gives result (form nothing Look line.now) }
+    ensures fits { IfOk result LineFits }
+{
+    end_line(line)?;
+    Ok(Line::Act(Act::Look))
+}
+
+/// `ROW COL HEIGHT WIDTH HEX` behind `page T.N draw`.
+pub fn read_draw(alloc: Global, who: &[u8], line: &[u8]) -> Result<Line, LineFault>
+    ensures line { Gives result
+        (form_of (number (number (number (number (hex nothing))))) Draw who.now line.now) }
+    ensures fits { IfOk result LineFits }
+{
+    let (row, rest) = take_word(line)?;
+    let (col, rest) = take_word(rest)?;
+    let (height, rest) = take_word(rest)?;
+    let (width, rest) = take_word(rest)?;
+    let (pixels, rest) = take_word(rest)?;
+    end_line(rest)?;
+    let Some(who) = read_instance(who) else {
+        return Err(LineFault::Number);
+    };
+    let Some(row) = read_number(BOUND, row) else {
+        return Err(LineFault::Number);
+    };
+    let Some(col) = read_number(BOUND, col) else {
+        return Err(LineFault::Number);
+    };
+    let Some(height) = read_number(BOUND, height) else {
+        return Err(LineFault::Number);
+    };
+    let Some(width) = read_number(BOUND, width) else {
+        return Err(LineFault::Number);
+    };
+    let Some(pixels) = read_hex(alloc, pixels)? else {
+        return Err(LineFault::Hex);
+    };
+    Ok(Line::Act(Act::Draw {
+        who,
+        row: row as u32,
+        col: col as u32,
+        height: height as u32,
+        width: width as u32,
+        pixels,
+    }))
+}
+
+/// `URL` behind `page T.N go`.
+pub fn read_go(alloc: Global, who: &[u8], line: &[u8]) -> Result<Line, LineFault>
+    ensures line { Gives result (form_of rest Go who.now line.now) }
+    ensures fits { IfOk result LineFits }
+{
+    let Some(who) = read_instance(who) else {
+        return Err(LineFault::Number);
+    };
+    let url = read_rest(alloc, line)?;
+    Ok(Line::Act(Act::Go { who, url }))
+}
+
+/// `TEXT` behind `cookie set`.
+pub fn read_cookie_set(
+    alloc: Global,
+    side: Side,
+    who: &[u8],
+    line: &[u8],
+) -> Result<Line, LineFault>
+    ensures line { Gives result (form_of rest (CookieSet side) who.now line.now) }
+    ensures fits { IfOk result LineFits }
+{
+    let Some(who) = read_instance(who) else {
+        return Err(LineFault::Number);
+    };
+    let text = read_rest(alloc, line)?;
+    Ok(Line::Act(Act::CookieSet { side, who, text }))
+}
+
+/// Nothing behind `cookie get`.
+pub fn read_cookie_get(side: Side, who: &[u8], line: &[u8]) -> Result<Line, LineFault>
+    ensures line { Gives result (form_of nothing (CookieGet side) who.now line.now) }
+    ensures fits { IfOk result LineFits }
+{
+    end_line(line)?;
+    let Some(who) = read_instance(who) else {
+        return Err(LineFault::Number);
+    };
+    Ok(Line::Act(Act::CookieGet { side, who }))
+}
+
+/// Nothing behind `net T.N flow P`.
+pub fn read_bind(proto: Proto, who: &[u8], line: &[u8]) -> Result<Line, LineFault>
+    ensures line { Gives result (form_of nothing (λ who. Bind who proto) who.now line.now) }
+    ensures fits { IfOk result LineFits }
+{
+    end_line(line)?;
+    let Some(who) = read_instance(who) else {
+        return Err(LineFault::Number);
+    };
+    Ok(Line::Act(Act::Bind { who, proto }))
+}
+
+/// `I` behind `net T.N close`.
+pub fn read_unbind(who: &[u8], line: &[u8]) -> Result<Line, LineFault>
+    ensures line { Gives result (form_of (flow nothing) Unbind who.now line.now) }
+    ensures fits { IfOk result LineFits }
+{
+    let (flow, rest) = take_word(line)?;
+    end_line(rest)?;
+    let Some(who) = read_instance(who) else {
+        return Err(LineFault::Number);
+    };
+    let Some(flow) = read_number(16, flow) else {
+        return Err(LineFault::Number);
+    };
+    Ok(Line::Act(Act::Unbind {
+        who,
+        flow: flow as u8,
+    }))
+}
+
+/// Nothing behind `net T.N done`.
+pub fn read_done(who: &[u8], line: &[u8]) -> Result<Line, LineFault>
+    ensures line { Gives result (form_of nothing Done who.now line.now) }
+    ensures fits { IfOk result LineFits }
+{
+    end_line(line)?;
+    let Some(who) = read_instance(who) else {
+        return Err(LineFault::Number);
+    };
+    Ok(Line::Act(Act::Done { who }))
+}
+
+/// `REG` behind `dev read`.
+pub fn read_register_read(line: &[u8]) -> Result<Line, LineFault>
+    ensures line { Gives result (form (hex_number nothing) RegRead line.now) }
+    ensures fits { IfOk result LineFits }
+{
+    let (offset, rest) = take_word(line)?;
+    end_line(rest)?;
+    let Some(offset) = read_hex_number(offset) else {
+        return Err(LineFault::Number);
+    };
+    Ok(Line::Act(Act::RegRead { offset }))
+}
+
+/// `REG VALUE` behind `dev write`.
+pub fn read_register_write(line: &[u8]) -> Result<Line, LineFault>
+    ensures line { Gives result (form (hex_number (hex_number nothing)) RegWrite line.now) }
+    ensures fits { IfOk result LineFits }
+{
+    let (offset, rest) = take_word(line)?;
+    let (value, rest) = take_word(rest)?;
+    end_line(rest)?;
+    let Some(offset) = read_hex_number(offset) else {
+        return Err(LineFault::Number);
+    };
+    let Some(value) = read_hex_number(value) else {
+        return Err(LineFault::Number);
+    };
+    Ok(Line::Act(Act::RegWrite { offset, value }))
+}
+
+/// `SLOT NAME TURN` behind `dev rx`.
+pub fn read_receive_post(line: &[u8]) -> Result<Line, LineFault>
+    ensures line { Gives result (form (number (name (number nothing))) posted line.now) }
+    ensures fits { IfOk result LineFits }
+{
+    let (slot, rest) = take_word(line)?;
+    let (name, rest) = take_word(rest)?;
+    let (turn, rest) = take_word(rest)?;
+    end_line(rest)?;
+    let Some(slot) = read_number(BOUND, slot) else {
+        return Err(LineFault::Number);
+    };
+    let Some(name) = read_number(256, name) else {
+        return Err(LineFault::Number);
+    };
+    let Some(turn) = read_number(BOUND, turn) else {
+        return Err(LineFault::Number);
+    };
+    Ok(Line::Act(Act::RxPost {
+        slot: slot as u32,
+        handle: Handle {
+            name: name as u8,
+            turn: turn as u32,
+        },
+    }))
+}
+
+/// Nothing behind `dev bell rx`.
+pub fn read_receive_bell(line: &[u8]) -> Result<Line, LineFault>
+    ensures line { Gives result (form nothing RxBell line.now) }
+    ensures fits { IfOk result LineFits }
+{
+    end_line(line)?;
+    Ok(Line::Act(Act::RxBell))
+}
+
+/// `HEX` behind `wire in`.
+pub fn read_wire_frame(alloc: Global, line: &[u8]) -> Result<Line, LineFault>
+    ensures line { Gives result (form (hex nothing) WireIn line.now) }
+    ensures fits { IfOk result LineFits }
+{
+    let (frame, rest) = take_word(line)?;
+    end_line(rest)?;
+    let Some(frame) = read_hex(alloc, frame)? else {
+        return Err(LineFault::Hex);
+    };
+    Ok(Line::Act(Act::WireIn { frame }))
+}
+
+// The first word of a line that must have one, and the rest after it.
+fn take_word(line: &[u8]) -> Result<(&[u8], &[u8]), LineFault>
+    ensures has { MatchResult result (λ _. has_word line.now ≡ true)
+        (λ fault. (has_word line.now ≡ false) × (fault ≡ LineFault.Count)) }
+    ensures word { IfOk result (λ found. found.0.now ≡ first_word line.now) }
+    ensures rest { IfOk result (λ found. found.1.now ≡ after_word line.now) }
+{
+    match next_word(line) {
+        Some(found) => Ok(found),
+        None => Err(LineFault::Count),
+    }
+}
+
+// A line that must have no word.
+fn end_line(line: &[u8]) -> Result<(), LineFault>
+    ensures { MatchResult result (λ _. has_word line.now ≡ false)
+        (λ fault. (has_word line.now ≡ true) × (fault ≡ LineFault.Count)) }
+{
+    match next_word(line) {
+        Some(_) => Err(LineFault::Count),
+        None => Ok(()),
+    }
+}
+
+// The rest of a line after the spaces at its front.
+fn read_rest(alloc: Global, line: &[u8]) -> Result<Bytes, Memory>
+    ensures { IfOk result (λ rest. rest ≡ after_spaces line.now) }
+{
+    let rest = Vec::from_slice(alloc, skip_spaces(line))?;
+    Ok(Bytes::from(rest))
+}
