@@ -1,14 +1,18 @@
 -- What concerns one instance of one origin.
 use Rattle.std.specs.Prelude.{ℕ, ◌≡◌, ◌≢◌, List, [], ◌∷◌, ◌++◌, ◌-◌, Bool, not, ◌&&◌, nat_lt}
-use Rattle.std.specs.Prelude.{bytes_eq, Option, if◌then◌else◌}
+use Rattle.std.specs.Prelude.{bytes_eq, filter, map, Option, if◌then◌else◌}
 use Rattle.ibos_kinds.specs.declared.names.Instance.{Instance}
 use Rattle.ibos_kinds.specs.declared.act.Act.{Act}
 use Rattle.ibos_kinds.specs.declared.act.Act.TheVariants.{Press, Click, CookieSet}
+use Rattle.ibos_kinds.specs.declared.act.Act.TheVariants.{RxBell, WireIn}
+use Rattle.ibos_kinds.specs.declared.names.Local.{Local}
+use Rattle.ibos_kinds.specs.declared.outcome.Outcome.{Outcome}
 use Rattle.ibos_kinds.specs.declared.party.Party.TheVariants.{Page}
 use Rattle.ibos_kinds.specs.Parties.{is_by}
 use Rattle.ibos_origin.specs.Hosts.{HostTable}
 use Rattle.ibos_model.specs.Folds.{in_order}
-use Rattle.ibos_model.specs.Journal.{Entry, Journal, is_accepted, same}
+use Rattle.ibos_model.specs.Journal.{Entry, Journal, if_heard, is_accepted, same}
+use Rattle.ibos_model.specs.OwnBell.{is_for}
 use Rattle.ibos_kinds.specs.Keyboard.{key_byte}
 use Rattle.ibos_kinds.specs.Screens.{chrome_rows}
 use Rattle.ibos_model.specs.Focus.{focus_of, is_active}
@@ -23,6 +27,8 @@ pub data Fact : Type 0 where
   KeyHit : (byte : ℕ) → Fact
   ClickHit : (row col : ℕ) → Fact
   OtherSet : (text : List ℕ) → Fact
+  Frame : (w : List ℕ) → Fact
+  Bell : Fact
 
 -- the fact, if the test holds
 abbrev pub when : Bool → Fact → List Fact
@@ -51,14 +57,30 @@ hits p active at_entry_line ok (Click row col) = when (ok
     && (not (nat_lt row chrome_rows) && is_active p active)) (ClickHit (row - chrome_rows) col)
 hits p active at_entry_line ok other = []
 
+-- what the device wrote for a frame that was heard
+abbrev pub heard_by : Act → Outcome → List ℕ → List (List ℕ)
+heard_by (WireIn frame) outcome written = if_heard outcome written
+heard_by other outcome written = []
+
+-- a heard frame for one of the instance's ports
+abbrev pub arrivals : Local → Instance → Entry → List Fact
+arrivals local p e = map Frame (filter (is_for local p) (heard_by e.act e.outcome e.written))
+
+-- a receive bell, whatever it brings to whom
+abbrev pub bells : Bool → Act → List Fact
+bells ok RxBell = when ok Bell
+bells ok other = []
+
 -- what one entry adds
 abbrev pub facts_at : HostTable → Instance → List ℕ → Journal → Entry → List Fact
 facts_at H p o J e =
     when (is_by (Page p) e.act) (Own e.act)
     ++ (hits p (active_of H J) (focus_of J).at_entry_line (is_accepted e) e.act
     ++ (others (origin_of H J) p o (is_accepted e) e.act
+    ++ (arrivals H.local p e
+    ++ (bells (is_accepted e) e.act
     ++ change_facts p (is_by (Page p) e.act)
-    (changes H (tabs H J) (focus_of J) (is_accepted e) e.act)))
+    (changes H (tabs H J) (focus_of J) (is_accepted e) e.act)))))
 
 -- the facts in the journal's order
 abbrev pub facts : HostTable → Instance → List ℕ → Journal → List Fact

@@ -1,33 +1,49 @@
 -- What the facts give to the instance, and what a journal delivers to it.
-use Rattle.std.specs.Prelude.{ℕ, ◌+◌, Result, Ok, Err, bytes_eq, nat_lt, List, [], ◌∷◌, true}
-use Rattle.std.specs.Prelude.{if◌then◌else◌}
+use Rattle.std.specs.Prelude.{ℕ, ◌+◌, Result, Ok, Err, bytes_eq, nat_lt, List, [], ◌∷◌, ◌++◌, true}
+use Rattle.std.specs.Prelude.{length, map, Option, if◌then◌else◌}
 use Rattle.ibos_kinds.specs.declared.names.Instance.{Instance}
 use Rattle.ibos_kinds.specs.declared.act.Act.{Act}
+use Rattle.ibos_kinds.specs.declared.names.Proto.{Proto}
 use Rattle.ibos_kinds.specs.declared.rule.Rule.{Rule}
+use Rattle.ibos_kinds.specs.declared.outcome.Item.{Item}
 use Rattle.ibos_kinds.specs.declared.act.Act.TheVariants.{Go, Draw, CookieSet, CookieGet}
+use Rattle.ibos_kinds.specs.declared.act.Act.TheVariants.{Bind, Unbind, Done}
 use Rattle.ibos_kinds.specs.declared.outcome.Item.TheVariants.{Opened as ItemOpened, Moved, Ended}
 use Rattle.ibos_kinds.specs.declared.outcome.Item.TheVariants.{KeyTo, ClickTo}
 use Rattle.ibos_kinds.specs.declared.outcome.Outcome.{Outcome}
 use Rattle.ibos_kinds.specs.declared.cookies.Cookie.{Cookie}
+use Rattle.ibos_kinds.specs.Bells.{frames_in}
+use Rattle.ibos_kinds.specs.Flows.{Bound}
 use Rattle.ibos_origin.specs.Hosts.{HostTable}
 use Rattle.ibos_origin.specs.Pages.{Page, allowed}
 use Rattle.ibos_model.specs.Journal.{is_ok}
 use Rattle.ibos_model.specs.Tabs.{Life, Unborn, Alive, Gone}
 use Rattle.ibos_model.specs.Jars.{with_set}
+use Rattle.ibos_model.specs.Network.{bound_to, ear_with, endpoint_for, flows_by, unread_by}
+use Rattle.ibos_model.specs.OwnBell.{own_bell}
 use Rattle.ibos_model.specs.Outcomes.{accepted, admitted, go_outcome, draw_outcome, set_outcome}
-use Rattle.ibos_model.specs.Outcomes.{get_outcome}
+use Rattle.ibos_model.specs.Outcomes.{get_outcome, bind_outcome, unbind_outcome, done_outcome}
 use Rattle.ibos_kinds.specs.declared.party.Party.TheVariants.{Page as PageOf}
 use Rattle.ibos_model.specs.Folds.{counted, given}
 use Rattle.ibos_model.specs.Delivered.{Delivery, Answer, Told, told}
 use Rattle.ibos_model.specs.Facts.{Fact, Opened, IsAt, IsEnded, Own, KeyHit, ClickHit, OtherSet}
+use Rattle.ibos_model.specs.Facts.{Frame, Bell}
 
 -- what is counted for the instance
 pub record Mine : Type 0 where
   pub life : Life
   pub sets : List Cookie
+  pub flows : List (Option Proto)
+  pub unread : List (List ℕ)
+  -- the frames for its ports since the last receive bell
+  pub pending : List (List ℕ)
 
 abbrev pub newborn : Mine
-newborn = record { life = Unborn; sets = [] }
+newborn = record { life = Unborn; sets = []; flows = []; unread = []; pending = [] }
+
+-- what it has bound, to the endpoint of its origin
+abbrev pub own_bound : HostTable → List ℕ → Mine → Bound
+own_bound H o m = bound_to (endpoint_for H o) m.flows
 
 -- the outcome of one of its acts where it lives; a next instance is of its tab
 abbrev pub own_outcome : HostTable → List ℕ → Act → Mine → Outcome
@@ -36,6 +52,9 @@ own_outcome H o (CookieGet side who) m = get_outcome who m.sets
 own_outcome H o (Go who url) m = go_outcome who o (record { tab = who.tab; ord = who.ord + 1 })
     (allowed H url)
 own_outcome H o (Draw who row col height width pixels) m = draw_outcome row col height width pixels
+own_outcome H o (Bind who proto) m = bind_outcome who (own_bound H o m)
+own_outcome H o (Unbind who flow) m = unbind_outcome (own_bound H o m) flow
+own_outcome H o (Done who) m = done_outcome m.unread
 own_outcome H o other m = accepted []
 
 -- the outcome of one of its acts
@@ -57,7 +76,19 @@ abbrev pub own_after : HostTable → List ℕ → Act → Mine → Mine
 own_after H o (CookieSet side who text) m = record m
     { sets = with_set (is_ok (own_out H o (CookieSet side who text) m).head) text m.sets }
 own_after H o (Go who url) m = record m { life = life_after who o (allowed H url) m.life }
+own_after H o (Bind who proto) m = record m
+    { flows = flows_by true (is_ok (own_out H o (Bind who proto) m).head) (Bind who proto) m.flows }
+own_after H o (Unbind who flow) m = record m
+    { flows = flows_by true (is_ok (own_out H o (Unbind who flow) m).head) (Unbind who flow)
+    m.flows }
+own_after H o (Done who) m = record m
+    { unread = unread_by true (is_ok (own_out H o (Done who) m).head) (Done who) [] m.unread }
 own_after H o other m = m
+
+-- what a receive bell gives it
+abbrev pub bell_for : HostTable → Instance → List ℕ → Mine → List Item
+bell_for H p o m = own_bell H.local p (ear_with m.life (endpoint_for H o) m.flows)
+    (length m.unread) m.pending
 
 -- what a fact gives, and what is counted after it
 abbrev pub deliveries : HostTable → Instance → List ℕ → Mine → Fact → List Delivery
@@ -68,21 +99,28 @@ deliveries H p o m (Own a) = Answer (own_out H o a m).head ∷ told (PageOf p) (
 deliveries H p o m (KeyHit byte) = Told (KeyTo p byte) ∷ []
 deliveries H p o m (ClickHit row col) = Told (ClickTo p row col) ∷ []
 deliveries H p o m (OtherSet text) = []
+deliveries H p o m (Frame w) = []
+deliveries H p o m Bell = map Told (bell_for H p o m)
 
-abbrev pub mine_after : HostTable → List ℕ → Mine → Fact → Mine
-mine_after H o m (Opened url) = record m { life = Alive }
-mine_after H o m (IsAt url) = m
-mine_after H o m IsEnded = record m { life = Gone }
-mine_after H o m (Own a) = own_after H o a m
-mine_after H o m (KeyHit byte) = m
-mine_after H o m (ClickHit row col) = m
-mine_after H o m (OtherSet text) = record m { sets = with_set true text m.sets }
+abbrev pub mine_after : HostTable → Instance → List ℕ → Mine → Fact → Mine
+mine_after H p o m (Opened url) = record m { life = Alive }
+mine_after H p o m (IsAt url) = m
+mine_after H p o m IsEnded = record m { life = Gone }
+mine_after H p o m (Own a) = own_after H o a m
+mine_after H p o m (KeyHit byte) = m
+mine_after H p o m (ClickHit row col) = m
+mine_after H p o m (OtherSet text) = record m { sets = with_set true text m.sets }
+mine_after H p o m (Frame w) = record m { pending = m.pending ++ w ∷ [] }
+mine_after H p o m Bell = record m {
+  unread = m.unread ++ frames_in (bell_for H p o m);
+  pending = [];
+}
 
 abbrev pub gives_from : HostTable → Instance → List ℕ → Mine → List Fact → List Delivery
-gives_from H p o m fs = given (deliveries H p o) (mine_after H o) m fs
+gives_from H p o m fs = given (deliveries H p o) (mine_after H p o) m fs
 
-abbrev pub mine_from : HostTable → List ℕ → Mine → List Fact → Mine
-mine_from H o m fs = counted (mine_after H o) m fs
+abbrev pub mine_from : HostTable → Instance → List ℕ → Mine → List Fact → Mine
+mine_from H p o m fs = counted (mine_after H p o) m fs
 
 abbrev pub gives : HostTable → Instance → List ℕ → List Fact → List Delivery
 gives H p o fs = gives_from H p o newborn fs

@@ -5,7 +5,10 @@ pub use Rattle.ibos_kinds.specs.Parties.{same}
 use Rattle.ibos_kinds.specs.declared.act.Act.{Act}
 use Rattle.ibos_kinds.specs.declared.outcome.Head.{Head}
 use Rattle.ibos_kinds.specs.declared.outcome.Head.TheVariants.{Ok, Denied}
+use Rattle.ibos_kinds.specs.declared.act.Act.TheVariants.{WireIn}
+use Rattle.ibos_kinds.specs.declared.names.Verdict.TheVariants.{Heard}
 use Rattle.ibos_kinds.specs.declared.outcome.Item.{Item}
+use Rattle.ibos_kinds.specs.declared.outcome.Item.TheVariants.{VerdictIs}
 use Rattle.ibos_kinds.specs.declared.outcome.Outcome.{Outcome}
 
 -- an act, what came of it, and what the device wrote where a frame was heard
@@ -32,8 +35,8 @@ pub data Kind : Type 0 where
   Sends : Kind
   Nothing : Kind
 
--- no item is a verdict of the device so far
 abbrev pub kind_in : List Item → Kind
+kind_in (VerdictIs Heard ∷ items) = Hears
 kind_in items = Nothing
 
 abbrev pub kind_of : Outcome → Kind
@@ -60,3 +63,13 @@ acts (e ∷ J) = acts J ++ e.act ∷ []
 abbrev pub heard : Journal → List (List ℕ)
 heard [] = []
 heard (e ∷ J) = heard J ++ if_heard e.outcome e.written
+
+-- the frame that came
+abbrev pub frame_of : Act → List ℕ
+frame_of (WireIn frame) = frame
+frame_of other = []
+
+-- the frames heard, as they came
+abbrev pub frames : Journal → List (List ℕ)
+frames [] = []
+frames (e ∷ J) = frames J ++ if_heard e.outcome (frame_of e.act)

@@ -13,6 +13,7 @@ use Rattle.ibos_model.specs.Tabs.{Tabs, tabs, origin_of, active_of}
 use Rattle.ibos_kinds.specs.Cookies.{put}
 use Rattle.ibos_model.specs.Jars.{jar, sets_of}
 use Rattle.ibos_model.specs.Screen.{chrome_of, cell_of, screen}
+use Rattle.ibos_model.specs.Network.{Network, network}
 use Rattle.ibos_model.specs.Runs.{Follows, GoesOn, IsRun, run, run_from}
 use Rattle.ibos_model.specs.Text.{text_of}
 use Rattle.ibos_model.specs.Facts.{facts, Suits}
@@ -82,6 +83,7 @@ pub record Views : Type 0 where
   pub sets : List ℕ → List Cookie
   pub cells : Instance → ℕ → ℕ → ℕ
   pub screen : ℕ → ℕ → ℕ
+  pub network : Network
 
 abbrev pub views : HostTable → Journal → Views
 views H J = record {
@@ -90,6 +92,7 @@ views H J = record {
   sets = sets_of H J;
   cells = cell_of J;
   screen = screen H J;
+  network = network J;
 }
 
 -- A denied entry changes nothing.

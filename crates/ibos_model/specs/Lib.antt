@@ -4,6 +4,9 @@ pub mod Focus
 pub mod Tabs
 pub mod Jars
 pub mod Screen
+pub mod Rings
+pub mod Network
+pub mod OwnBell
 pub mod Outcomes
 pub mod Runs
 pub mod Facts

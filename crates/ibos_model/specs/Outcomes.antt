@@ -6,16 +6,26 @@ use Rattle.ibos_kinds.specs.declared.party.Party.{Party}
 use Rattle.ibos_kinds.specs.declared.party.Party.TheVariants.{Page as PageOf}
 use Rattle.ibos_kinds.specs.Parties.{actor}
 use Rattle.ibos_kinds.specs.declared.rule.Rule.{Rule}
-use Rattle.ibos_kinds.specs.declared.rule.Rule.TheVariants.{U1, U2, U3, U10, U12, P1, P2}
+use Rattle.ibos_kinds.specs.declared.rule.Rule.TheVariants.{U1, U2, U3, U10, U12, P1, P2, N6}
+use Rattle.ibos_kinds.specs.declared.names.Endpoint.{Endpoint}
+use Rattle.ibos_kinds.specs.declared.names.Handle.{Handle}
+use Rattle.ibos_kinds.specs.Flows.{Bound, bind_answer, close_answer}
+use Rattle.ibos_kinds.specs.Ports.{port_of}
+use Rattle.ibos_nic.specs.declared.reg.Reg.{Reg}
+use Rattle.ibos_nic.specs.Parts.{reg_at}
+use Rattle.ibos_nic.specs.Rules.{read_rule, write_rule, receive_rule}
 use Rattle.ibos_kinds.specs.declared.names.Key.{Key}
 use Rattle.ibos_kinds.specs.declared.names.Key.TheVariants.{Enter}
 use Rattle.ibos_kinds.specs.declared.act.Act.{Act}
 use Rattle.ibos_kinds.specs.declared.act.Act.TheVariants.{Start, Switch, Close, Press, Click, Look}
 use Rattle.ibos_kinds.specs.declared.act.Act.TheVariants.{Go, Draw, CookieSet, CookieGet}
+use Rattle.ibos_kinds.specs.declared.act.Act.TheVariants.{Bind, Unbind, Done, RegRead, RegWrite}
+use Rattle.ibos_kinds.specs.declared.act.Act.TheVariants.{RxPost, RxBell, WireIn}
 use Rattle.ibos_kinds.specs.declared.outcome.Head.TheVariants.{Ok as Fine, Denied}
 use Rattle.ibos_kinds.specs.declared.outcome.Item.{Item}
 use Rattle.ibos_kinds.specs.declared.outcome.Item.TheVariants.{Opened, Moved, Ended, KeyTo, ClickTo}
-use Rattle.ibos_kinds.specs.declared.outcome.Item.TheVariants.{Cookies, RowIs}
+use Rattle.ibos_kinds.specs.declared.outcome.Item.TheVariants.{Cookies, RowIs, FlowIs}
+use Rattle.ibos_kinds.specs.declared.outcome.Item.TheVariants.{ValueIs, VerdictIs}
 use Rattle.ibos_kinds.specs.declared.outcome.Outcome.{Outcome}
 use Rattle.ibos_kinds.specs.declared.cookies.Cookie.{Cookie}
 use Rattle.ibos_kinds.specs.Cookies.{set_breaks, jar_text}
@@ -28,6 +38,8 @@ use Rattle.ibos_model.specs.Focus.{Focus, focus_of}
 use Rattle.ibos_model.specs.Tabs.{Tabs, Life, Unborn, Alive, Gone, tabs, next_in, life_of}
 use Rattle.ibos_model.specs.Tabs.{origin_in, origin_of, active_of}
 use Rattle.ibos_model.specs.Jars.{jar, sets_of}
+use Rattle.ibos_model.specs.Network.{bell_items, bound_to, endpoint_for, network}
+use Rattle.ibos_model.specs.Rings.{Rings, register, values_in, verdict_at}
 use Rattle.ibos_model.specs.Screen.{screen, seen_row}
 
 abbrev pub denied : Rule → Outcome
@@ -122,6 +134,45 @@ look_outcome f = accepted (rows_from 0 (chrome_rows + content_rows) f)
 abbrev pub draw_outcome : ℕ → ℕ → ℕ → ℕ → List ℕ → Outcome
 draw_outcome row col height width pixels = answer (draw_breaks row col height width pixels)
 
+-- a flow is bound: its number, its port and the other end
+abbrev pub bound_outcome : Instance → Endpoint → Result ℕ Rule → Outcome
+bound_outcome who remote (Ok flow) = accepted (FlowIs who flow (port_of who flow) remote ∷ [])
+bound_outcome who remote (Err rule) = denied rule
+
+abbrev pub bind_outcome : Instance → Bound → Outcome
+bind_outcome who bound = bound_outcome who bound.remote (bind_answer bound)
+
+abbrev pub unless_denied : Result Unit Rule → Outcome
+unless_denied (Ok x) = accepted []
+unless_denied (Err rule) = denied rule
+
+abbrev pub unbind_outcome : Bound → ℕ → Outcome
+unbind_outcome bound flow = unless_denied (close_answer flow bound)
+
+abbrev pub done_outcome : List (List ℕ) → Outcome
+done_outcome [] = denied N6
+done_outcome (w ∷ unread) = accepted []
+
+abbrev pub value_at : (Reg → ℕ) → Option Reg → ℕ
+value_at registers None = 0
+value_at registers (Some reg) = registers reg
+
+-- where no rule is broken, the value of the register
+abbrev pub value_outcome : Option Rule → ℕ → Outcome
+value_outcome None value = accepted (ValueIs value ∷ [])
+value_outcome (Some rule) value = denied rule
+
+abbrev pub read_outcome : (Reg → ℕ) → ℕ → Outcome
+read_outcome registers offset = value_outcome (read_rule offset)
+    (value_at registers (reg_at offset))
+
+abbrev pub post_outcome : Rings → ℕ → Handle → Outcome
+post_outcome r slot handle = answer (receive_rule r.receive r.names r.turns slot handle)
+
+-- what an instance has bound
+abbrev pub bound_in : HostTable → Journal → Instance → Bound
+bound_in H J who = bound_to (endpoint_for H (origin_of H J who)) ((network J).flows who)
+
 -- the outcome of an act after a journal, where its actor may act
 abbrev pub act_outcome : HostTable → Journal → Act → Outcome
 act_outcome H J (Start tab url) = start_outcome ((tabs H J).live tab) (next_in (tabs H J) tab)
@@ -136,6 +187,16 @@ act_outcome H J (Go who url) = go_outcome who (origin_of H J who) (next_in (tabs
     (allowed H url)
 act_outcome H J (CookieSet side who text) = set_outcome text (sets_of H J (origin_of H J who))
 act_outcome H J (CookieGet side who) = get_outcome who (sets_of H J (origin_of H J who))
+act_outcome H J (Bind who proto) = bind_outcome who (bound_in H J who)
+act_outcome H J (Unbind who flow) = unbind_outcome (bound_in H J who) flow
+act_outcome H J (Done who) = done_outcome ((network J).unread who)
+act_outcome H J (RegRead offset) = read_outcome (register H.local (network J).rings) offset
+act_outcome H J (RegWrite offset value) =
+    answer (write_rule (values_in (network J).rings) offset value)
+act_outcome H J (RxPost slot handle) = post_outcome (network J).rings slot handle
+act_outcome H J RxBell = accepted (bell_items H (tabs H J) (network J))
+act_outcome H J (WireIn frame) =
+    accepted (VerdictIs (verdict_at H.local (network J).rings frame) ∷ [])
 
 -- an instance acts while it lives, and all others always
 abbrev pub life_of_party : (Instance → Life) → Party → Life
