@@ -1,15 +1,15 @@
 -- The laws of journals.
-use Rattle.std.specs.Prelude.{ℕ, ◌≡◌, List, ◌∷◌, ◌++◌, Bool, false, ◌&&◌, ◌||◌, length, take}
+use Rattle.std.specs.Prelude.{ℕ, ◌≡◌, List, [], ◌∷◌, ◌++◌, Bool, false, ◌&&◌, ◌||◌, length, take}
 use Rattle.std.specs.Prelude.{Option, Some}
 use Rattle.ibos_kinds.specs.declared.names.Instance.{Instance}
 use Rattle.ibos_kinds.specs.declared.act.Act.{Act}
 use Rattle.ibos_origin.specs.Hosts.{HostTable}
 use Rattle.ibos_origin.specs.Tables.{HasPlainNames}
 use Rattle.ibos_kinds.specs.declared.act.Act.TheVariants.{Go}
-use Rattle.ibos_model.specs.Journal.{Entry, Journal, acts, heard, is_accepted}
+use Rattle.ibos_model.specs.Journal.{Entry, Journal, acts, frames, heard, is_accepted}
 use Rattle.ibos_kinds.specs.declared.cookies.Cookie.{Cookie}
 use Rattle.ibos_model.specs.Focus.{Focus, focus_of, is_active}
-use Rattle.ibos_model.specs.Tabs.{Tabs, tabs, origin_of, active_of}
+use Rattle.ibos_model.specs.Tabs.{Tabs, Unborn, tabs, life_of, origin_of, active_of}
 use Rattle.ibos_kinds.specs.Cookies.{put}
 use Rattle.ibos_model.specs.Jars.{jar, sets_of}
 use Rattle.ibos_model.specs.Screen.{chrome_of, cell_of, screen}
@@ -113,7 +113,17 @@ abbrev pub DoGoOn : Type 0
 DoGoOn = (H : HostTable) (J : Journal) (e : Entry) (left all : List Act) → Follows H J e →
     GoesOn H J (e.act ∷ left) all → GoesOn H (e ∷ J) left all
 
--- The text of a journal is a front of that of each run from there.
+-- The text of a journal is a front of that of each run from there, and so are the frames that were
+-- heard.
 abbrev pub AreFronts : Type 0
 AreFronts = (H : HostTable) (J : Journal) (A : List Act) (W : List (List ℕ)) →
     (more : List ℕ) × (text_of J ++ more ≡ text_of (run_from H J A W))
+
+abbrev pub AreFrameFronts : Type 0
+AreFrameFronts = (H : HostTable) (J : Journal) (A : List Act) (W : List (List ℕ)) →
+    (more : List (List ℕ)) × (frames J ++ more ≡ frames (run_from H J A W))
+
+-- An instance that never started has bound nothing, and has no frame.
+abbrev pub AreUnbornBare : Type 0
+AreUnbornBare = (H : HostTable) (J : Journal) (p : Instance) → IsRun H J → life_of H J p ≡ Unborn
+    → ((network J).flows p ≡ []) × ((network J).unread p ≡ [])

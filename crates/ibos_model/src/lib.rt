@@ -2,7 +2,7 @@
 //! nothing to run here: each function is a law, which its contract states.
 #![tactic(auto)]
 
-ghost use Rattle.ibos_model.specs.Laws.{AreFronts, AreOfTheirActs, AreRuns, AreSetsPut, DoGoOn};
+ghost use Rattle.ibos_model.specs.Laws.{AreFrameFronts, AreFronts, AreUnbornBare, AreOfTheirActs, AreRuns, AreSetsPut, DoGoOn};
 ghost use Rattle.ibos_model.specs.Laws.{IsIsolated, IsIsolatedOverTwo, IsCarriedAlways};
 ghost use Rattle.ibos_model.specs.Laws.{IsChromeKept, IsOriginShown, IsUnchanged};
 
@@ -69,4 +69,14 @@ pub fn runs_go_on()
 /// The text of a journal is a front of the text of each run from there.
 pub fn texts_are_fronts()
     ensures { AreFronts }
+{}
+
+/// The frames heard in a journal are a front of those of each run from there.
+pub fn frames_are_fronts()
+    ensures { AreFrameFronts }
+{}
+
+/// An instance that never started has bound no flow, and was given no frame.
+pub fn unborn_have_nothing()
+    ensures { AreUnbornBare }
 {}
