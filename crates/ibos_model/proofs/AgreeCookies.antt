@@ -13,6 +13,7 @@ use Rattle.ibos_origin.specs.Pages.{Page}
 use Rattle.ibos_model.specs.Journal.{Journal, is_ok, is_accepted, same}
 use Rattle.ibos_model.specs.Tabs.{tabs, Life, Unborn, Alive, Gone, life_with, life_of, origin_of, origin_with}
 use Rattle.ibos_model.specs.Jars.{with_set, jar, sets_of}
+use Rattle.ibos_model.specs.Network.{network}
 use Rattle.ibos_model.specs.Outcomes.{admitted, answer, set_outcome, get_outcome, out}
 use Rattle.ibos_model.specs.Facts.{OtherSet, when, Suits}
 use Rattle.ibos_model.specs.Gives.{Mine, gives_from, mine_from}
@@ -50,10 +51,10 @@ counts_own o text sets (Some page) false suits =
     let is : page.origin ≡ o = suits (λ unborn. cc) in
     rw (is, bytes_eq-refl o) (and-true _)
 
-counts_other : (H : HostTable) (o text : List ℕ) (counts : Bool) (life : Life) (sets : List Cookie)
-    → record { life = life; sets = with_set counts text sets } ≡ mine_from H o (record { life = life; sets = sets }) (when counts (OtherSet text) ++ [])
-counts_other H o text true life sets = refl
-counts_other H o text false life sets = refl
+counts_other : (H : HostTable) (p : Instance) (o text : List ℕ) (counts : Bool) (m : Mine)
+    → record m { sets = with_set counts text m.sets } ≡ mine_from H p o m (when counts (OtherSet text) ++ [])
+counts_other H p o text true m = refl
+counts_other H p o text false m = refl
 
 silent_other : (H : HostTable) (p : Instance) (o : List ℕ) (m : Mine) (text : List ℕ) (counts : Bool) → [] ≡ gives_from H p o m (when counts (OtherSet text) ++ [])
 silent_other H p o m text true = refl
@@ -61,25 +62,25 @@ silent_other H p o m text false = refl
 
 pub set_agrees : (H : HostTable) (p : Instance) (o : List ℕ) (J : Journal) (side : Side) (who : Instance) (text w : List ℕ) → Suits H p o J
     → (own : Bool) → same who p ≡ own → Agrees H p o J (entry H J (CookieSet side who text) w)
-unfolding tabs sets_of
+unfolding tabs sets_of network
 set_agrees H p o J side who text w suits true own =
     let here : who ≡ p = same-true who p own in
     record {
       told = rw own (told_own H p o (mine_of H p o J) (CookieSet side who text) (out H J (CookieSet side who text))
           (ap (answers p) (ap (λ q. out H J (CookieSet side q text)) here ∙ admit_same o (λ origin. set_outcome text (sets_of H J origin)) ((tabs H J).page p) ((tabs H J).is_gone p) suits)));
-      mine = rw (own, here) (ap (λ counts. record { life = life_of H J p; sets = with_set counts text (sets_of H J o) })
+      mine = rw (own, here) (ap (λ counts. record (mine_of H p o J) { sets = with_set counts text (sets_of H J o) })
           (counts_own o text (sets_of H J) ((tabs H J).page p) ((tabs H J).is_gone p) suits));
     }
 set_agrees H p o J side who text w suits false other =
     let counts = is_accepted (entry H J (CookieSet side who text) w) && bytes_eq (origin_of H J who) o in
     record {
       told = rw other (other_set_told p who (life_of H J who) text (sets_of H J (origin_of H J who)) ∙ silent_other H p o (mine_of H p o J) text counts);
-      mine = rw other (counts_other H o text counts (life_of H J p) (sets_of H J o));
+      mine = rw other (counts_other H p o text counts (mine_of H p o J));
     }
 
 pub get_agrees : (H : HostTable) (p : Instance) (o : List ℕ) (J : Journal) (side : Side) (who : Instance) (w : List ℕ) → Suits H p o J
     → (own : Bool) → same who p ≡ own → Agrees H p o J (entry H J (CookieGet side who) w)
-unfolding tabs sets_of
+unfolding tabs sets_of network
 get_agrees H p o J side who w suits true own =
     let here : who ≡ p = same-true who p own in
     record {

@@ -1,6 +1,7 @@
 -- What it takes that one entry agrees with its facts.
 use Rattle.std.proofs.Common.{◌≡◌, ◌≢◌, ℕ, List, [], ◌∷◌, Bool, true, false, Option, Some, None, refl, sym, ◌∙◌, ap, append-nil}
 use Rattle.ibos_kinds.specs.declared.names.Instance.{Instance}
+use Rattle.std.specs.Prelude.{filter}
 use Rattle.ibos_kinds.specs.declared.party.Party.TheVariants.{Page as PageOf}
 use Rattle.ibos_kinds.specs.declared.act.Act.{Act}
 use Rattle.ibos_kinds.specs.declared.outcome.Outcome.{Outcome}
@@ -9,6 +10,8 @@ use Rattle.ibos_origin.specs.Pages.{Page}
 use Rattle.ibos_model.specs.Journal.{Entry, Journal}
 use Rattle.ibos_model.specs.Tabs.{tabs, Unborn, life_with, origin_with}
 use Rattle.ibos_model.specs.Jars.{sets_of}
+use Rattle.ibos_model.specs.Network.{network}
+use Rattle.ibos_model.specs.OwnBell.{is_for}
 use Rattle.ibos_model.specs.Outcomes.{admitted, out}
 use Rattle.ibos_model.specs.Facts.{Fact, Own, facts_at}
 use Rattle.ibos_model.specs.Gives.{Mine, own_out, deliveries, mine_after, gives_from}
@@ -16,9 +19,19 @@ use Rattle.ibos_model.specs.Delivered.{Delivery, Answer, told, told_at}
 use Rattle.ibos_model.proofs.ChangesTold.{mine_in}
 use Rattle.ibos_model.proofs.Inductions.{Law, OneMore}
 
+-- what the journal says besides the life
+abbrev pub held_of : HostTable → Instance → List ℕ → Journal → Mine
+held_of H p o J = record {
+  life = Unborn;
+  sets = sets_of H J o;
+  flows = (network J).flows p;
+  unread = (network J).unread p;
+  pending = filter (is_for H.local p) (network J).pending;
+}
+
 -- what is counted for p, read from the journal
 abbrev pub mine_of : HostTable → Instance → List ℕ → Journal → Mine
-mine_of H p o J = mine_in (tabs H J) p (sets_of H J o)
+mine_of H p o J = mine_in (tabs H J) p (held_of H p o J)
 
 -- the law of an instance and an origin
 abbrev pub own_law : HostTable → Instance → List ℕ → Law Entry Mine Fact Delivery
@@ -26,7 +39,7 @@ own_law H p o = record {
   facts = facts_at H p o;
   tells = λ J e. told_at (PageOf p) e;
   gives = deliveries H p o;
-  after = mine_after H o;
+  after = mine_after H p o;
   state = mine_of H p o;
 }
 

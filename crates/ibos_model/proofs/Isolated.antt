@@ -2,12 +2,13 @@
 use Rattle.std.proofs.Common.{◌≡◌, ℕ, List, ◌∷◌, refl, sym, ap, subst}
 use Rattle.ibos_kinds.specs.declared.names.Instance.{Instance}
 use Rattle.ibos_kinds.specs.declared.act.Act.{Act}
-use Rattle.ibos_kinds.specs.declared.act.Act.TheVariants.{Start, Switch, Close, Press, Click, Look, Go, Draw, CookieSet, CookieGet}
+use Rattle.ibos_kinds.specs.declared.act.Act.TheVariants.{Start, Switch, Close, Press, Click, Look, Go, Draw, CookieSet, CookieGet, Bind, Unbind, Done, RegRead, RegWrite, RxPost, RxBell, WireIn}
 use Rattle.ibos_kinds.specs.declared.outcome.Outcome.{Outcome}
 use Rattle.ibos_origin.specs.Hosts.{HostTable}
 use Rattle.ibos_model.specs.Journal.{Entry, Journal, same}
 use Rattle.ibos_model.specs.Tabs.{tabs}
 use Rattle.ibos_model.specs.Jars.{sets_of}
+use Rattle.ibos_model.specs.Network.{network}
 use Rattle.ibos_model.specs.Outcomes.{out}
 use Rattle.ibos_model.specs.Runs.{IsRun, run}
 use Rattle.ibos_model.specs.Facts.{Suits}
@@ -18,6 +19,7 @@ use Rattle.ibos_model.proofs.ChangesDue.{IsSound, tabs_sound}
 use Rattle.ibos_model.proofs.EntriesAgree.{own_law, Agrees, entry}
 use Rattle.ibos_model.proofs.AgreeTabs.{start_agrees, switch_agrees, close_agrees, go_agrees}
 use Rattle.ibos_model.proofs.AgreeCookies.{set_agrees, get_agrees}
+use Rattle.ibos_model.proofs.AgreeFrames.{bind_agrees, unbind_agrees, done_agrees, read_agrees, write_agrees, post_agrees, arrive_agrees, bell_agrees}
 use Rattle.ibos_model.proofs.GoingOn.{is_run}
 use Rattle.ibos_model.proofs.AgreeInput.{press_agrees, click_agrees, look_agrees, draw_agrees}
 
@@ -33,6 +35,14 @@ agrees H p o J (Draw who row col height width pixels) w sound suits = draw_agree
 agrees H p o J (Go who url) w sound suits = go_agrees H p o J who url w sound suits (same who p) refl
 agrees H p o J (CookieSet side who text) w sound suits = set_agrees H p o J side who text w suits (same who p) refl
 agrees H p o J (CookieGet side who) w sound suits = get_agrees H p o J side who w suits (same who p) refl
+agrees H p o J (Bind who proto) w sound suits = bind_agrees H p o J who proto w suits (same who p) refl
+agrees H p o J (Unbind who flow) w sound suits = unbind_agrees H p o J who flow w suits (same who p) refl
+agrees H p o J (Done who) w sound suits = done_agrees H p o J who w (same who p) refl
+agrees H p o J (RegRead offset) w sound suits = read_agrees H p o J offset w
+agrees H p o J (RegWrite offset value) w sound suits = write_agrees H p o J offset value w
+agrees H p o J (RxPost slot handle) w sound suits = post_agrees H p o J slot handle w
+agrees H p o J RxBell w sound suits = bell_agrees H p o J w suits
+agrees H p o J (WireIn frame) w sound suits = arrive_agrees H p o J frame w
 
 -- ---- whole runs
 
@@ -57,7 +67,7 @@ own_holds : (H : HostTable) (p : Instance) (o : List ℕ) (J : Journal) → IsRu
 own_holds H p o J run suits = holds (own_law H p o) (IsGood H p o) (good_before H p o) (good_agrees H p o) J (record { run = run; suits = suits })
 
 pub isolated_in : (H : HostTable) (J : Journal) → IsRun H J → IsIsolatedIn H J
-unfolding tabs sets_of
+unfolding tabs sets_of network
 isolated_in H J run p o suits = (own_holds H p o J run suits).told
 
 pub isolated : IsIsolated
@@ -68,5 +78,5 @@ isolated_over_two H A B V W p o first second same =
     same_told (own_law H p o) (run H A V) (run H B W) (own_holds H p o (run H A V) (is_run H A V) first) (own_holds H p o (run H B W) (is_run H B W) second) same
 
 pub carried : IsCarriedAlways
-unfolding tabs sets_of
+unfolding tabs sets_of network
 carried H J e run p o suits = adds (own_law H p o) J e (own_holds H p o J run.1 (suits_before H p o J e run suits)) (own_holds H p o (e ∷ J) run suits)

@@ -9,6 +9,8 @@ pub mod EntriesAgree
 pub mod AgreeTabs
 pub mod AgreeCookies
 pub mod AgreeInput
+pub mod Bells
+pub mod AgreeFrames
 pub mod GoingOn
 pub mod Isolated
 pub mod Chrome
