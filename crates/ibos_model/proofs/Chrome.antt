@@ -5,7 +5,7 @@ use Rattle.std.proofs.lemmas.Bool.Decides.{nat_tests}
 use Rattle.ibos_kinds.specs.declared.names.Instance.{Instance}
 use Rattle.ibos_kinds.specs.declared.rule.Rule.{Rule}
 use Rattle.ibos_kinds.specs.declared.act.Act.{Act}
-use Rattle.ibos_kinds.specs.declared.act.Act.TheVariants.{Start, Switch, Close, Press, Click, Look, Go, Draw, CookieSet, CookieGet}
+use Rattle.ibos_kinds.specs.declared.act.Act.TheVariants.{Start, Switch, Close, Press, Click, Look, Go}
 use Rattle.ibos_kinds.specs.declared.outcome.Outcome.{Outcome}
 use Rattle.ibos_origin.specs.Hosts.{HostTable}
 use Rattle.ibos_origin.specs.Pages.{Page, allowed}
@@ -86,15 +86,13 @@ accepted_kept : (H : HostTable) (J : Journal) (a : Act) (r : ℕ) → IsSound (t
     → chrome_in (changed_by (tabs H J) (changes H (tabs H J) (focus_of J) true a)) (focus_by true a (focus_of J)) r ≡ chrome_in (tabs H J) (focus_of J) r
 accepted_kept H J (Go who url) r is ok other = left_chrome (tabs H J) (focus_of J) who (allowed H url) is
     (admitted_lives (tabs H J) who _ is ((tabs H J).page who) refl ((tabs H J).is_gone who) refl ok).live other r
-accepted_kept H J (Draw who row col height width pixels) r is ok other = refl
-accepted_kept H J (CookieSet side who text) r is ok other = refl
-accepted_kept H J (CookieGet side who) r is ok other = refl
 accepted_kept H J (Start tab url) r is ok other = cc
 accepted_kept H J (Switch tab) r is ok other = cc
 accepted_kept H J (Close tab) r is ok other = cc
 accepted_kept H J (Press key) r is ok other = cc
 accepted_kept H J (Click row col) r is ok other = cc
 accepted_kept H J Look r is ok other = cc
+accepted_kept H J act r is ok other = refl
 
 pub chrome_kept : IsChromeKept
 unfolding tabs focus_of

@@ -5,11 +5,11 @@ use Rattle.ibos_kinds.specs.declared.act.Act.{Act}
 use Rattle.ibos_kinds.specs.declared.outcome.Outcome.{Outcome}
 use Rattle.ibos_script.specs.Printed.{outcome_text}
 use Rattle.ibos_origin.specs.Hosts.{HostTable}
-use Rattle.ibos_model.specs.Journal.{Entry, Journal, acts, heard, is_heard, if_heard}
+use Rattle.ibos_model.specs.Journal.{Entry, Journal, acts, frame_of, frames, heard, is_heard, if_heard}
 use Rattle.ibos_model.specs.Outcomes.{out}
 use Rattle.ibos_model.specs.Runs.{Follows, GoesOn, IsRun, IsWritten, written_by, left_by, entry_of, run_from, run}
 use Rattle.ibos_model.specs.Text.{text_of}
-use Rattle.ibos_model.specs.Laws.{AreRuns, AreOfTheirActs, DoGoOn, AreFronts}
+use Rattle.ibos_model.specs.Laws.{AreRuns, AreOfTheirActs, DoGoOn, AreFronts, AreFrameFronts}
 
 written_is : (h : Bool) (w : List ℕ) (W : List (List ℕ)) → IsWritten h w → written_by h ((if h then w ∷ [] else []) ++ W) ≡ w
 written_is true w W is = refl
@@ -54,6 +54,13 @@ fronts H J (a ∷ A) W =
     let e = entry_of H J W a in
     let rest = fronts H (e ∷ J) A (left_by (is_heard (out H J a)) W) in
     (outcome_text (length J + 1) e.outcome ++ rest.0, sym (append_assoc (text_of J) (outcome_text (length J + 1) e.outcome) rest.0) ∙ rest.1)
+
+pub frame_fronts : AreFrameFronts
+frame_fronts H J [] W = ([], append-nil (frames J))
+frame_fronts H J (a ∷ A) W =
+    let e = entry_of H J W a in
+    let rest = frame_fronts H (e ∷ J) A (left_by (is_heard (out H J a)) W) in
+    (if_heard e.outcome (frame_of a) ++ rest.0, sym (append_assoc (frames J) (if_heard e.outcome (frame_of a)) rest.0) ∙ rest.1)
 
 -- ---- runs that acts make
 
