@@ -46,7 +46,7 @@ agrees H p o J (WireIn frame) w sound suits = arrive_agrees H p o J frame w
 
 -- ---- whole runs
 
-as_entry : (H : HostTable) (J : Journal) (e : Entry) → e.outcome ≡ out H J e.act → entry H J e.act e.written ≡ e
+pub as_entry : (H : HostTable) (J : Journal) (e : Entry) → e.outcome ≡ out H J e.act → entry H J e.act e.written ≡ e
 as_entry H J e is = ap (λ (r : Outcome). record { act = e.act; outcome = r; written = e.written }) (sym is)
 
 -- a run that the origin suits

@@ -13,6 +13,7 @@ pub mod Bells
 pub mod AgreeFrames
 pub mod GoingOn
 pub mod Isolated
+pub mod Unborn
 pub mod Chrome
 pub mod BarOrigins
 pub mod Denials

@@ -1,0 +1,67 @@
+-- An instance that never started has bound nothing, and has no frame.
+use Rattle.std.proofs.Common.{◌≡◌, ℕ, List, [], ◌∷◌, ◌++◌, Bool, true, false, ◌&&◌, Option, None, Ok, Err, Result, refl, sym, ◌∙◌, ap, subst}
+use Rattle.std.specs.Prelude.{filter, length}
+use Rattle.ibos_kinds.specs.declared.act.Act.{Act}
+use Rattle.ibos_kinds.specs.declared.act.Act.TheVariants.{Bind, Unbind, Done, RxBell}
+use Rattle.ibos_kinds.specs.declared.names.Instance.{Instance}
+use Rattle.ibos_kinds.specs.declared.names.Local.{Local}
+use Rattle.ibos_kinds.specs.declared.outcome.Outcome.{Outcome}
+use Rattle.ibos_kinds.specs.declared.rule.Rule.{Rule}
+use Rattle.ibos_kinds.specs.Bells.{Aim, aim_of, frames_in}
+use Rattle.ibos_origin.specs.Hosts.{HostTable}
+use Rattle.ibos_model.specs.Journal.{Entry, Journal, is_ok, same}
+use Rattle.ibos_model.specs.Laws.{AreUnbornBare}
+use Rattle.ibos_model.specs.Network.{bound_to, ear_in, ear_with, endpoint_for, network, unread_count}
+use Rattle.ibos_model.specs.Outcomes.{admitted, act_outcome}
+use Rattle.ibos_model.specs.OwnBell.{is_for, own_bell, own_heard, own_unread}
+use Rattle.ibos_model.specs.Rings.{handles_after}
+use Rattle.ibos_model.specs.Runs.{IsRun}
+use Rattle.ibos_model.specs.Tabs.{Unborn, life_of, origin_in, tabs}
+use Rattle.ibos_model.proofs.Bells.{bell_told}
+use Rattle.ibos_model.proofs.EntriesAgree.{entry}
+use Rattle.ibos_model.proofs.Equalities.{same-true}
+use Rattle.ibos_model.proofs.Isolated.{as_entry}
+use Rattle.ibos_model.proofs.NewInstances.{unborn_before}
+
+abbrev Bare : Instance → Journal → Type 0
+Bare p J = ((network J).flows p ≡ []) × ((network J).unread p ≡ [])
+
+-- its acts are denied
+denied_own : (H : HostTable) (J : Journal) (p who : Instance) (outcome : Outcome) → life_of H J p ≡ Unborn
+    → (same who p && is_ok (admitted (life_of H J who) outcome).head) ≡ false
+denied_own H J p who outcome unborn = by_own (same who p) refl
+  where
+    by_own : (own : Bool) → same who p ≡ own → (own && is_ok (admitted (life_of H J who) outcome).head) ≡ false
+    by_own false is = refl
+    by_own true is = ap (λ q. is_ok (admitted (life_of H J q) outcome).head) (same-true who p is) ∙ ap (λ life. is_ok (admitted life outcome).head) unborn
+
+-- a bell gives nothing to one that hears nothing
+deaf_to : (p : Instance) (unread : ℕ) (w : List ℕ) (r : Result Aim Rule) → own_heard p None unread w r ≡ []
+deaf_to p unread w (Ok aim) = refl
+deaf_to p unread w (Err rule) = refl
+
+deaf : (local : Local) (p : Instance) (unread : ℕ) (ws : List (List ℕ)) → own_bell local p None unread ws ≡ []
+unfolding own_bell
+deaf local p unread [] = refl
+deaf local p unread (w ∷ ws) = rw (deaf_to p unread w (aim_of local w)) (deaf local p (own_unread None unread (aim_of local w)) ws)
+
+bare_after : (H : HostTable) (J : Journal) (p : Instance) (a : Act) (w : List ℕ) → life_of H J p ≡ Unborn → Bare p J → Bare p (entry H J a w ∷ J)
+unfolding network
+bare_after H J p (Bind who proto) w unborn bare = (rw (denied_own H J p who (act_outcome H J (Bind who proto)) unborn) bare.0, bare.1)
+bare_after H J p (Unbind who flow) w unborn bare = (rw (denied_own H J p who (act_outcome H J (Unbind who flow)) unborn) bare.0, bare.1)
+bare_after H J p (Done who) w unborn bare = (bare.0, rw (denied_own H J p who (act_outcome H J (Done who)) unborn) bare.1)
+bare_after H J p RxBell w unborn bare =
+    let n = network J in
+    let is = bell_told H.local p (ear_in H (tabs H J) n) (unread_count n) (handles_after n.rings) n.pending
+        ∙ ap (λ life. own_bell H.local p (ear_with life (endpoint_for H (origin_in (tabs H J) p)) (n.flows p)) (length (n.unread p)) (filter (is_for H.local p) n.pending)) unborn
+        ∙ deaf H.local p (length (n.unread p)) (filter (is_for H.local p) n.pending) in
+    (bare.0, ap (λ items. n.unread p ++ frames_in items) is ∙ ap (λ ws. ws ++ []) bare.1)
+bare_after H J p other w unborn bare = bare
+
+pub unborn_bare : AreUnbornBare
+unfolding tabs network
+unborn_bare H [] p run unborn = (refl, refl)
+unborn_bare H (e ∷ J) p run unborn =
+    let before = unborn_before H J e p run unborn in
+    let P : Entry → Type 0 = λ x. Bare p (x ∷ J) in
+    subst P (as_entry H J e run.0.outcome) (bare_after H J p e.act e.written before (unborn_bare H J p run.1 before))
