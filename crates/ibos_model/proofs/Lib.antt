@@ -14,6 +14,7 @@ pub mod AgreeFrames
 pub mod GoingOn
 pub mod Isolated
 pub mod Unborn
+pub mod RingCounts
 pub mod Chrome
 pub mod BarOrigins
 pub mod Denials

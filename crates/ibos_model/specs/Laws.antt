@@ -1,5 +1,5 @@
 -- The laws of journals.
-use Rattle.std.specs.Prelude.{ℕ, ◌≡◌, List, [], ◌∷◌, ◌++◌, Bool, false, ◌&&◌, ◌||◌, length, take}
+use Rattle.std.specs.Prelude.{ℕ, ◌≡◌, ◌≤◌, ◌+◌, ◌-◌, List, [], ◌∷◌, ◌++◌, Bool, false, ◌&&◌, ◌||◌, length, take}
 use Rattle.std.specs.Prelude.{Option, Some}
 use Rattle.ibos_kinds.specs.declared.names.Instance.{Instance}
 use Rattle.ibos_kinds.specs.declared.act.Act.{Act}
@@ -13,6 +13,8 @@ use Rattle.ibos_model.specs.Tabs.{Tabs, Unborn, tabs, life_of, origin_of, active
 use Rattle.ibos_kinds.specs.Cookies.{put}
 use Rattle.ibos_model.specs.Jars.{jar, sets_of}
 use Rattle.ibos_model.specs.Screen.{chrome_of, cell_of, screen}
+use Rattle.ibos_nic.specs.Rings.{RingValues}
+use Rattle.ibos_model.specs.Rings.{Rings}
 use Rattle.ibos_model.specs.Network.{Network, network}
 use Rattle.ibos_model.specs.Runs.{Follows, GoesOn, IsRun, run, run_from}
 use Rattle.ibos_model.specs.Text.{text_of}
@@ -127,3 +129,25 @@ AreFrameFronts = (H : HostTable) (J : Journal) (A : List Act) (W : List (List �
 abbrev pub AreUnbornBare : Type 0
 AreUnbornBare = (H : HostTable) (J : Journal) (p : Instance) → IsRun H J → life_of H J p ≡ Unborn
     → ((network J).flows p ≡ []) × ((network J).unread p ≡ [])
+
+-- The counts of a ring, where the device is done with so many descriptors: none of taken back, done
+-- with, rung and posted passes the one behind it, and one slot stays empty.
+pub record AreInOrder (v : RingValues) (count : ℕ) : Type 0 where
+  pub taken : v.taken ≤ count
+  pub passed : count ≤ v.rung
+  pub rung : v.rung ≤ v.posted
+  pub posted : v.posted ≤ v.taken + 63
+
+-- Nothing is sent yet, so the device is done with no descriptor of the transmit ring.
+pub record IsOrdered (r : Rings) (frames : List (List ℕ)) : Type 0 where
+  pub receive : AreInOrder r.receive r.heard
+  pub transmit : AreInOrder r.transmit 0
+  pub names : length r.names ≡ r.receive.posted - r.receive.taken
+  pub turns : length r.turns ≡ 64
+  pub pending : length frames ≡ r.heard - r.receive.taken
+
+-- In every run the counts of both rings are in order: each heard frame that is pending has a
+-- buffer.
+abbrev pub AreOrdered : Type 0
+AreOrdered = (H : HostTable) (J : Journal) → IsRun H J
+    → IsOrdered (network J).rings (network J).pending

@@ -2,10 +2,12 @@
 //! nothing to run here: each function is a law, which its contract states.
 #![tactic(auto)]
 
-ghost use Rattle.ibos_model.specs.Laws.{AreFrameFronts, AreFronts, AreUnbornBare, AreOfTheirActs, AreRuns, AreSetsPut, DoGoOn};
+ghost use Rattle.ibos_model.specs.Laws.{AreFrameFronts, AreFronts, AreOfTheirActs, AreOrdered};
+ghost use Rattle.ibos_model.specs.Laws.{AreRuns, AreSetsPut, AreUnbornBare, DoGoOn};
 ghost use Rattle.ibos_model.specs.Laws.{IsIsolated, IsIsolatedOverTwo, IsCarriedAlways};
 ghost use Rattle.ibos_model.specs.Laws.{IsChromeKept, IsOriginShown, IsUnchanged};
 
+use ibos_nic::rules_are_exact;
 use ibos_origin::{origins_are_printable, urls_begin_with_their_origin};
 
 /// In every run each instance is told what the facts that concern it give, whatever else happens.
@@ -45,7 +47,8 @@ pub fn origins_show_whole()
     origins_are_printable();
 }
 
-/// A denied act changes nothing that a journal says: tabs, focus, jars, contents and the screen.
+/// A denied act changes nothing that a journal says: tabs, focus, jars, contents, the screen, flows,
+/// frames, rings and registers.
 pub fn denials_change_nothing()
     ensures { IsUnchanged }
 {}
@@ -80,3 +83,14 @@ pub fn frames_are_fronts()
 pub fn unborn_have_nothing()
     ensures { AreUnbornBare }
 {}
+
+/// In every run the counts of each ring are in order: no more descriptors are taken back than the
+/// device is done with, no more of these than rung, no more rung than posted, and at most 63 are
+/// posted and not taken back. So many buffers are in the ring, and so many frames are pending, as
+/// the counts say.
+pub fn rings_are_ordered()
+    ensures { AreOrdered }
+{
+    // Called for what its contract says.
+    rules_are_exact();
+}

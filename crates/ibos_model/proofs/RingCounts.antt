@@ -1,0 +1,210 @@
+-- The counts of the rings stay in order.
+use Rattle.std.proofs.Common.{◌≡◌, ◌≢◌, ℕ, ◌+◌, ◌-◌, ◌<◌, ◌≤◌, ◌==◌, List, [], ◌∷◌, ◌++◌, Bool, true, false, not, ◌||◌, Option, Some, None, refl, sym, ◌∙◌, ap, subst, arith, length, append-nil, drop, take}
+use Rattle.std.specs.Prelude.{if◌then◌else◌, slice_index}
+use Rattle.std.specs.Int.{bytes_high_first}
+use Rattle.std.proofs.lemmas.Bool.Decides.{nat_tests}
+use Rattle.std.proofs.lemmas.List.{length-append, length-drop, length-set}
+use Rattle.ibos_kinds.specs.declared.act.Act.{Act}
+use Rattle.ibos_kinds.specs.declared.act.Act.TheVariants.{RegRead, RegWrite, RxPost, RxBell, WireIn}
+use Rattle.ibos_kinds.specs.declared.names.Handle.{Handle}
+use Rattle.ibos_kinds.specs.declared.names.Local.{Local}
+use Rattle.ibos_kinds.specs.declared.names.Verdict.{Verdict}
+use Rattle.ibos_kinds.specs.declared.names.Verdict.TheVariants.{Filtered, Missed, Heard}
+use Rattle.ibos_kinds.specs.declared.outcome.Item.TheVariants.{VerdictIs}
+use Rattle.ibos_kinds.specs.declared.rule.Rule.{Rule}
+use Rattle.ibos_kinds.specs.declared.rule.Rule.TheVariants.{M1}
+use Rattle.ibos_pool.specs.declared.name.Name.{Name}
+use Rattle.ibos_pool.specs.declared.name.Ring.{Ring}
+use Rattle.ibos_pool.specs.declared.name.Ring.TheVariants.{Receive, Transmit}
+use Rattle.ibos_nic.specs.declared.part.Part.{Part}
+use Rattle.ibos_nic.specs.declared.part.Part.TheVariants.{Tail}
+use Rattle.ibos_nic.specs.declared.part.RingPart.{RingPart}
+use Rattle.ibos_nic.specs.declared.reg.Reg.{Reg}
+use Rattle.ibos_nic.specs.declared.reg.Reg.TheVariants.{Icr, Mpc}
+use Rattle.ibos_nic.specs.Device.{is_let_in}
+use Rattle.ibos_nic.specs.Parts.{part_of, reg_at}
+use Rattle.ibos_nic.specs.Permits.{MayPostReceive, MayWrite, MayWriteIn, MayWritePart}
+use Rattle.ibos_nic.specs.Registers.{is_enabled}
+use Rattle.ibos_nic.specs.Rings.{RingValues, values_written}
+use Rattle.ibos_nic.specs.Rules.{of_reg as of_reg_rule, read_rule, receive_rule, with_turn, write_rule, write_rule_of}
+use Rattle.ibos_origin.specs.Hosts.{HostTable}
+use Rattle.ibos_model.specs.Journal.{Entry, Journal, if_heard, is_ok}
+use Rattle.ibos_model.specs.Laws.{AreInOrder, AreOrdered, IsOrdered}
+use Rattle.ibos_model.specs.Network.{network}
+use Rattle.ibos_model.specs.Outcomes.{accepted, answer, out}
+use Rattle.ibos_model.specs.Rings.{Rings, arrived, belled, of_reg, posted, read_from, turns_after, values_in, verdict_at, with_values, written_to}
+use Rattle.ibos_model.specs.Runs.{IsRun}
+use Rattle.ibos_model.proofs.EntriesAgree.{entry}
+use Rattle.ibos_model.proofs.Isolated.{as_entry}
+
+-- what ibos_nic says of its rules
+abbrev pub WritesMay : Type 0
+WritesMay = (values : Ring → RingValues) (reg : Reg) (value : ℕ) → write_rule_of values reg value ≡ None → MayWrite values reg value
+
+abbrev pub PostsMay : Type 0
+PostsMay = (v : RingValues) (names : List Name) (turns : List ℕ) (slot : ℕ) (handle : Handle) → receive_rule v names turns slot handle ≡ None → MayPostReceive v names turns slot handle
+
+-- a change where no rule is broken
+unless_broken : (r s : Rings) (ws : List (List ℕ)) (rule : Option Rule) → (rule ≡ None → IsOrdered s ws) → IsOrdered r ws → IsOrdered (if is_ok (answer rule).head then s else r) ws
+unless_broken r s ws None allowed is = allowed refl
+unless_broken r s ws (Some rule) allowed is = is
+
+-- ---- registers
+
+-- other registers count nothing here
+with_others : (r : Rings) (ws : List (List ℕ)) (mask causes missed : ℕ) → IsOrdered r ws → IsOrdered (record r { mask = mask; causes = causes; missed = missed }) ws
+with_others r ws mask causes missed is = record { receive = is.receive; transmit = is.transmit; names = is.names; turns = is.turns; pending = is.pending }
+
+read_ordered : (r : Rings) (ws : List (List ℕ)) (o : Option Reg) (ok : Bool) → IsOrdered r ws → IsOrdered (if ok then of_reg o (λ reg. read_from reg r) r else r) ws
+read_ordered r ws o false is = is
+read_ordered r ws None true is = is
+read_ordered r ws (Some Icr) true is = with_others r ws r.mask 0 r.missed is
+read_ordered r ws (Some Mpc) true is = with_others r ws r.mask r.causes 0 is
+read_ordered r ws (Some other) true is = is
+
+part_written : (r : Rings) (ws : List (List ℕ)) (value : ℕ) (ring : Ring) (part : Part) → MayWritePart ring (values_in r ring) part value → IsOrdered r ws
+    → IsOrdered (with_values ring (values_written part value (values_in r ring)) r) ws
+part_written r ws value Receive Tail may is = record {
+  receive = record { taken = is.receive.taken; passed = omega (arith, is.receive.passed); rung = may.2; posted = is.receive.posted };
+  transmit = is.transmit;
+  names = is.names;
+  turns = is.turns;
+  pending = is.pending;
+}
+part_written r ws value Transmit Tail may is = record {
+  receive = is.receive;
+  transmit = record { taken = is.transmit.taken; passed = omega (arith, is.transmit.passed); rung = may.2; posted = is.transmit.posted };
+  names = is.names;
+  turns = is.turns;
+  pending = is.pending;
+}
+part_written r ws value Receive other may is = record {
+  receive = record { taken = is.receive.taken; passed = is.receive.passed; rung = is.receive.rung; posted = is.receive.posted };
+  transmit = is.transmit;
+  names = is.names;
+  turns = is.turns;
+  pending = is.pending;
+}
+part_written r ws value Transmit other may is = record {
+  receive = is.receive;
+  transmit = record { taken = is.transmit.taken; passed = is.transmit.passed; rung = is.transmit.rung; posted = is.transmit.posted };
+  names = is.names;
+  turns = is.turns;
+  pending = is.pending;
+}
+
+written_ordered : (r : Rings) (ws : List (List ℕ)) (reg : Reg) (value : ℕ) (p : Option RingPart) → MayWriteIn (values_in r) reg p value → IsOrdered r ws → IsOrdered (written_to reg p value r) ws
+written_ordered r ws reg value None may is = with_others r ws _ r.causes r.missed is
+written_ordered r ws reg value (Some p) may is = part_written r ws value p.ring p.part may is
+
+write_ordered : WritesMay → (r : Rings) (ws : List (List ℕ)) (value : ℕ) (o : Option Reg) → of_reg_rule o (λ reg. write_rule_of (values_in r) reg value) M1 ≡ None → IsOrdered r ws
+    → IsOrdered (of_reg o (λ reg. written_to reg (part_of reg) value r) r) ws
+write_ordered may r ws value None allowed is = is
+write_ordered may r ws value (Some reg) allowed is = written_ordered r ws reg value (part_of reg) (may (values_in r) reg value allowed) is
+
+-- ---- posts and bells
+
+post_ordered : PostsMay → (r : Rings) (ws : List (List ℕ)) (slot : ℕ) (handle : Handle) → receive_rule r.receive r.names r.turns slot handle ≡ None → IsOrdered r ws → IsOrdered (posted handle r) ws
+post_ordered may r ws slot handle allowed is =
+    let room : r.receive.posted - r.receive.taken ≢ 63 = (may r.receive r.names r.turns slot handle allowed).post.room in
+    record {
+      receive = record {
+        taken = is.receive.taken;
+        passed = is.receive.passed;
+        rung = omega (arith, is.receive.rung);
+        posted = omega (arith, room, is.receive.posted);
+      };
+      transmit = is.transmit;
+      names = length-append r.names _ ∙ omega (arith, is.names, is.receive.taken, is.receive.passed, is.receive.rung);
+      turns = is.turns;
+      pending = is.pending;
+    }
+
+turns_stay : (names : List Name) (turns : List ℕ) → length (turns_after names turns) ≡ length turns
+turns_stay [] turns = refl
+turns_stay (name ∷ names) turns = turns_stay names (with_turn turns name.index) ∙ length-set turns name.index (slice_index turns name.index + 1)
+
+bell_ordered : (r : Rings) (ws : List (List ℕ)) → IsOrdered r ws → IsOrdered (belled r) []
+bell_ordered r ws is =
+    let count = r.heard - r.receive.taken in
+    record {
+      receive = record {
+        taken = omega (arith, is.receive.taken);
+        passed = is.receive.passed;
+        rung = is.receive.rung;
+        posted = omega (arith, is.receive.posted);
+      };
+      transmit = is.transmit;
+      names = length-drop count r.names ∙ omega (arith, is.names, is.receive.taken, is.receive.passed, is.receive.rung);
+      turns = turns_stay (take count r.names) r.turns ∙ is.turns;
+      pending = omega (arith, is.receive.taken);
+    }
+
+-- ---- frames that come
+
+missed_ordered : (r : Rings) (ws : List (List ℕ)) (enabled : Bool) (causes missed : ℕ) → IsOrdered r ws → IsOrdered (if enabled then record r { causes = causes; missed = missed } else r) ws
+missed_ordered r ws true causes missed is = with_others r ws r.mask causes missed is
+missed_ordered r ws false causes missed is = is
+
+arrive_ordered : (r : Rings) (ws : List (List ℕ)) (w : List ℕ) (verdict : Verdict) → (verdict ≡ Heard → r.heard ≢ r.receive.rung) → IsOrdered r ws
+    → IsOrdered (arrived verdict r) (ws ++ if_heard (accepted (VerdictIs verdict ∷ [])) w)
+arrive_ordered r ws w Filtered room is = subst (IsOrdered r) (sym (append-nil ws)) is
+arrive_ordered r ws w Missed room is = subst (IsOrdered (arrived Missed r)) (sym (append-nil ws)) (missed_ordered r ws (is_enabled r.receive.control) _ _ is)
+arrive_ordered r ws w Heard room is =
+    let left = room refl in
+    record {
+      receive = record {
+        taken = omega (arith, is.receive.taken);
+        passed = omega (arith, left, is.receive.passed);
+        rung = is.receive.rung;
+        posted = is.receive.posted;
+      };
+      transmit = is.transmit;
+      names = is.names;
+      turns = is.turns;
+      pending = length-append ws (w ∷ []) ∙ omega (arith, is.pending, is.receive.taken);
+    }
+
+heard_with : (let_in enabled all : Bool) → (if not let_in then Filtered else if not enabled || all then Missed else Heard) ≡ Heard → all ≡ false
+heard_with false enabled all is = cc
+heard_with true false all is = cc
+heard_with true true true is = cc
+heard_with true true false is = refl
+
+-- the device has a buffer where a frame is heard
+heard_room : (local : Local) (r : Rings) (frame : List ℕ) → verdict_at local r frame ≡ Heard → r.heard ≢ r.receive.rung
+unfolding verdict_at
+heard_room local r frame is same =
+    let differ : (r.heard == r.receive.rung) ≡ false = heard_with (is_let_in (bytes_high_first 6 local.mac) frame) (is_enabled r.receive.control) (r.heard == r.receive.rung) is in
+    grind (arith, nat_tests)
+
+-- ---- runs
+
+entry_ordered : WritesMay → PostsMay → (H : HostTable) (J : Journal) (a : Act) (w : List ℕ) → IsOrdered (network J).rings (network J).pending
+    → IsOrdered (network (entry H J a w ∷ J)).rings (network (entry H J a w ∷ J)).pending
+unfolding network
+entry_ordered writes posts H J (RegRead offset) w is = read_ordered (network J).rings (network J).pending (reg_at offset) (is_ok (out H J (RegRead offset)).head) is
+entry_ordered writes posts H J (RegWrite offset value) w is =
+    let r = (network J).rings in
+    unless_broken r _ (network J).pending (write_rule (values_in r) offset value) (λ allowed. write_ordered writes r (network J).pending value (reg_at offset) allowed is) is
+entry_ordered writes posts H J (RxPost slot handle) w is =
+    let r = (network J).rings in
+    unless_broken r _ (network J).pending (receive_rule r.receive r.names r.turns slot handle) (λ allowed. post_ordered posts r (network J).pending slot handle allowed is) is
+entry_ordered writes posts H J RxBell w is = bell_ordered (network J).rings (network J).pending is
+entry_ordered writes posts H J (WireIn frame) w is =
+    let r = (network J).rings in
+    arrive_ordered r (network J).pending w (verdict_at H.local r frame) (heard_room H.local r frame) is
+entry_ordered writes posts H J other w is = is
+
+pub ordered : WritesMay → PostsMay → AreOrdered
+unfolding network
+ordered writes posts H [] run = record {
+  receive = record { taken = omega arith; passed = omega arith; rung = omega arith; posted = omega arith };
+  transmit = record { taken = omega arith; passed = omega arith; rung = omega arith; posted = omega arith };
+  names = refl;
+  turns = refl;
+  pending = refl;
+}
+ordered writes posts H (e ∷ J) run =
+    let P : Entry → Type 0 = λ x. IsOrdered (network (x ∷ J)).rings (network (x ∷ J)).pending in
+    subst P (as_entry H J e run.0.outcome) (entry_ordered writes posts H J e.act e.written (ordered writes posts H J run.1))
