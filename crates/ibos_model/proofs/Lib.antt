@@ -15,6 +15,7 @@ pub mod GoingOn
 pub mod Isolated
 pub mod Unborn
 pub mod RingCounts
+pub mod DeviceRegisters
 pub mod Chrome
 pub mod BarOrigins
 pub mod Denials

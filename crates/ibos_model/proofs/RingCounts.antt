@@ -1,5 +1,5 @@
 -- The counts of the rings stay in order.
-use Rattle.std.proofs.Common.{◌≡◌, ◌≢◌, ℕ, ◌+◌, ◌-◌, ◌<◌, ◌≤◌, ◌==◌, List, [], ◌∷◌, ◌++◌, Bool, true, false, not, ◌||◌, Option, Some, None, refl, sym, ◌∙◌, ap, subst, arith, length, append-nil, drop, take}
+use Rattle.std.proofs.Common.{◌≡◌, ◌≢◌, ℕ, ◌+◌, ◌-◌, ◌<◌, ◌≤◌, ◌==◌, List, [], ◌∷◌, ◌++◌, Bool, true, false, not, ◌||◌, Option, Some, None, inl, inr, refl, sym, ◌∙◌, ap, subst, arith, length, append-nil, drop, take}
 use Rattle.std.specs.Prelude.{if◌then◌else◌, slice_index}
 use Rattle.std.specs.Int.{bytes_high_first}
 use Rattle.std.proofs.lemmas.Bool.Decides.{nat_tests}
@@ -17,7 +17,7 @@ use Rattle.ibos_pool.specs.declared.name.Name.{Name}
 use Rattle.ibos_pool.specs.declared.name.Ring.{Ring}
 use Rattle.ibos_pool.specs.declared.name.Ring.TheVariants.{Receive, Transmit}
 use Rattle.ibos_nic.specs.declared.part.Part.{Part}
-use Rattle.ibos_nic.specs.declared.part.Part.TheVariants.{Tail}
+use Rattle.ibos_nic.specs.declared.part.Part.TheVariants.{Tail, Control}
 use Rattle.ibos_nic.specs.declared.part.RingPart.{RingPart}
 use Rattle.ibos_nic.specs.declared.reg.Reg.{Reg}
 use Rattle.ibos_nic.specs.declared.reg.Reg.TheVariants.{Icr, Mpc}
@@ -62,10 +62,18 @@ read_ordered r ws (Some Icr) true is = with_others r ws r.mask 0 r.missed is
 read_ordered r ws (Some Mpc) true is = with_others r ws r.mask r.causes 0 is
 read_ordered r ws (Some other) true is = is
 
+-- a control register that is written is that of a ring that was not enabled, or enables it
+still_unused : (v : RingValues) (value count : ℕ) → MayWritePart Receive v Control value → (is_enabled v.control ≡ false → count ≡ 0) → is_enabled value ≡ false → count ≡ 0
+still_unused v value count (inl may) unused off = unused (grind (arith, may.1))
+still_unused v value count (inr may) unused off = absurd (clash (sym (ap is_enabled may.0) ∙ off))
+  where
+    clash : true ≡ false → ⊥
+    clash h = cc
+
 part_written : (r : Rings) (ws : List (List ℕ)) (value : ℕ) (ring : Ring) (part : Part) → MayWritePart ring (values_in r ring) part value → IsOrdered r ws
     → IsOrdered (with_values ring (values_written part value (values_in r ring)) r) ws
 part_written r ws value Receive Tail may is = record {
-  receive = record { taken = is.receive.taken; passed = omega (arith, is.receive.passed); rung = may.2; posted = is.receive.posted };
+  receive = record { taken = is.receive.taken; passed = omega (arith, is.receive.passed); rung = may.2; posted = is.receive.posted; unused = is.receive.unused };
   transmit = is.transmit;
   names = is.names;
   turns = is.turns;
@@ -73,13 +81,20 @@ part_written r ws value Receive Tail may is = record {
 }
 part_written r ws value Transmit Tail may is = record {
   receive = is.receive;
-  transmit = record { taken = is.transmit.taken; passed = omega (arith, is.transmit.passed); rung = may.2; posted = is.transmit.posted };
+  transmit = record { taken = is.transmit.taken; passed = omega (arith, is.transmit.passed); rung = may.2; posted = is.transmit.posted; unused = λ off. refl };
+  names = is.names;
+  turns = is.turns;
+  pending = is.pending;
+}
+part_written r ws value Receive Control may is = record {
+  receive = record { taken = is.receive.taken; passed = is.receive.passed; rung = is.receive.rung; posted = is.receive.posted; unused = still_unused r.receive value r.heard may is.receive.unused };
+  transmit = is.transmit;
   names = is.names;
   turns = is.turns;
   pending = is.pending;
 }
 part_written r ws value Receive other may is = record {
-  receive = record { taken = is.receive.taken; passed = is.receive.passed; rung = is.receive.rung; posted = is.receive.posted };
+  receive = record { taken = is.receive.taken; passed = is.receive.passed; rung = is.receive.rung; posted = is.receive.posted; unused = is.receive.unused };
   transmit = is.transmit;
   names = is.names;
   turns = is.turns;
@@ -87,7 +102,7 @@ part_written r ws value Receive other may is = record {
 }
 part_written r ws value Transmit other may is = record {
   receive = is.receive;
-  transmit = record { taken = is.transmit.taken; passed = is.transmit.passed; rung = is.transmit.rung; posted = is.transmit.posted };
+  transmit = record { taken = is.transmit.taken; passed = is.transmit.passed; rung = is.transmit.rung; posted = is.transmit.posted; unused = λ off. refl };
   names = is.names;
   turns = is.turns;
   pending = is.pending;
@@ -113,6 +128,7 @@ post_ordered may r ws slot handle allowed is =
         passed = is.receive.passed;
         rung = omega (arith, is.receive.rung);
         posted = omega (arith, room, is.receive.posted);
+        unused = is.receive.unused;
       };
       transmit = is.transmit;
       names = length-append r.names _ ∙ omega (arith, is.names, is.receive.taken, is.receive.passed, is.receive.rung);
@@ -133,6 +149,7 @@ bell_ordered r ws is =
         passed = is.receive.passed;
         rung = is.receive.rung;
         posted = omega (arith, is.receive.posted);
+        unused = is.receive.unused;
       };
       transmit = is.transmit;
       names = length-drop count r.names ∙ omega (arith, is.names, is.receive.taken, is.receive.passed, is.receive.rung);
@@ -146,7 +163,10 @@ missed_ordered : (r : Rings) (ws : List (List ℕ)) (enabled : Bool) (causes mis
 missed_ordered r ws true causes missed is = with_others r ws r.mask causes missed is
 missed_ordered r ws false causes missed is = is
 
-arrive_ordered : (r : Rings) (ws : List (List ℕ)) (w : List ℕ) (verdict : Verdict) → (verdict ≡ Heard → r.heard ≢ r.receive.rung) → IsOrdered r ws
+true_differs : true ≡ false → ⊥
+true_differs h = cc
+
+arrive_ordered : (r : Rings) (ws : List (List ℕ)) (w : List ℕ) (verdict : Verdict) → (verdict ≡ Heard → (is_enabled r.receive.control ≡ true) × (r.heard ≢ r.receive.rung)) → IsOrdered r ws
     → IsOrdered (arrived verdict r) (ws ++ if_heard (accepted (VerdictIs verdict ∷ [])) w)
 arrive_ordered r ws w Filtered room is = subst (IsOrdered r) (sym (append-nil ws)) is
 arrive_ordered r ws w Missed room is = subst (IsOrdered (arrived Missed r)) (sym (append-nil ws)) (missed_ordered r ws (is_enabled r.receive.control) _ _ is)
@@ -155,9 +175,10 @@ arrive_ordered r ws w Heard room is =
     record {
       receive = record {
         taken = omega (arith, is.receive.taken);
-        passed = omega (arith, left, is.receive.passed);
+        passed = omega (arith, left.1, is.receive.passed);
         rung = is.receive.rung;
         posted = is.receive.posted;
+        unused = λ off. absurd (true_differs (sym left.0 ∙ off));
       };
       transmit = is.transmit;
       names = is.names;
@@ -165,18 +186,21 @@ arrive_ordered r ws w Heard room is =
       pending = length-append ws (w ∷ []) ∙ omega (arith, is.pending, is.receive.taken);
     }
 
-heard_with : (let_in enabled all : Bool) → (if not let_in then Filtered else if not enabled || all then Missed else Heard) ≡ Heard → all ≡ false
+heard_with : (let_in enabled all : Bool) → (if not let_in then Filtered else if not enabled || all then Missed else Heard) ≡ Heard → (enabled ≡ true) × (all ≡ false)
 heard_with false enabled all is = cc
 heard_with true false all is = cc
 heard_with true true true is = cc
-heard_with true true false is = refl
+heard_with true true false is = (refl, refl)
 
--- the device has a buffer where a frame is heard
-heard_room : (local : Local) (r : Rings) (frame : List ℕ) → verdict_at local r frame ≡ Heard → r.heard ≢ r.receive.rung
+-- receiving is enabled, and the device has a buffer, where a frame is heard
+heard_room : (local : Local) (r : Rings) (frame : List ℕ) → verdict_at local r frame ≡ Heard → (is_enabled r.receive.control ≡ true) × (r.heard ≢ r.receive.rung)
 unfolding verdict_at
-heard_room local r frame is same =
-    let differ : (r.heard == r.receive.rung) ≡ false = heard_with (is_let_in (bytes_high_first 6 local.mac) frame) (is_enabled r.receive.control) (r.heard == r.receive.rung) is in
-    grind (arith, nat_tests)
+heard_room local r frame is =
+    let both = heard_with (is_let_in (bytes_high_first 6 local.mac) frame) (is_enabled r.receive.control) (r.heard == r.receive.rung) is in
+    (both.0, differ r.heard r.receive.rung both.1)
+  where
+    differ : (m n : ℕ) → (m == n) ≡ false → m ≢ n
+    differ m n is same = grind (arith, nat_tests)
 
 -- ---- runs
 
@@ -199,8 +223,8 @@ entry_ordered writes posts H J other w is = is
 pub ordered : WritesMay → PostsMay → AreOrdered
 unfolding network
 ordered writes posts H [] run = record {
-  receive = record { taken = omega arith; passed = omega arith; rung = omega arith; posted = omega arith };
-  transmit = record { taken = omega arith; passed = omega arith; rung = omega arith; posted = omega arith };
+  receive = record { taken = omega arith; passed = omega arith; rung = omega arith; posted = omega arith; unused = λ off. refl };
+  transmit = record { taken = omega arith; passed = omega arith; rung = omega arith; posted = omega arith; unused = λ off. refl };
   names = refl;
   turns = refl;
   pending = refl;

@@ -13,8 +13,12 @@ use Rattle.ibos_model.specs.Tabs.{Tabs, Unborn, tabs, life_of, origin_of, active
 use Rattle.ibos_kinds.specs.Cookies.{put}
 use Rattle.ibos_model.specs.Jars.{jar, sets_of}
 use Rattle.ibos_model.specs.Screen.{chrome_of, cell_of, screen}
+use Rattle.ibos_nic.specs.declared.reg.Reg.{Reg}
+use Rattle.ibos_nic.specs.Device.{verdict_of}
+use Rattle.ibos_nic.specs.Registers.{is_enabled}
 use Rattle.ibos_nic.specs.Rings.{RingValues}
-use Rattle.ibos_model.specs.Rings.{Rings}
+use Rattle.ibos_model.specs.Rings.{Rings, verdict_at}
+use Rattle.ibos_model.specs.Registers.{first_registers, registers_by, registers_of}
 use Rattle.ibos_model.specs.Network.{Network, network}
 use Rattle.ibos_model.specs.Runs.{Follows, GoesOn, IsRun, run, run_from}
 use Rattle.ibos_model.specs.Text.{text_of}
@@ -137,6 +141,8 @@ pub record AreInOrder (v : RingValues) (count : ℕ) : Type 0 where
   pub passed : count ≤ v.rung
   pub rung : v.rung ≤ v.posted
   pub posted : v.posted ≤ v.taken + 63
+  -- where the ring was never enabled the device is done with none
+  pub unused : is_enabled v.control ≡ false → count ≡ 0
 
 -- Nothing is sent yet, so the device is done with no descriptor of the transmit ring.
 pub record IsOrdered (r : Rings) (frames : List (List ℕ)) : Type 0 where
@@ -151,3 +157,18 @@ pub record IsOrdered (r : Rings) (frames : List (List ℕ)) : Type 0 where
 abbrev pub AreOrdered : Type 0
 AreOrdered = (H : HostTable) (J : Journal) → IsRun H J
     → IsOrdered (network J).rings (network J).pending
+
+-- At first the registers are those of a reset, with the own address.
+abbrev pub AreFirst : Type 0
+AreFirst = (H : HostTable) (reg : Reg) → registers_of H [] reg ≡ first_registers H.local reg
+
+-- Each entry of a run changes them as the device does.
+abbrev pub AreTheDevices : Type 0
+AreTheDevices = (H : HostTable) (J : Journal) (e : Entry) (reg : Reg) → IsRun H (e ∷ J)
+    → registers_of H (e ∷ J) reg
+    ≡ registers_by (is_accepted e) e.act e.outcome.items (registers_of H J) reg
+
+-- In every run the verdict of a frame is the one that the device gives by its registers.
+abbrev pub IsTheDevices : Type 0
+IsTheDevices = (H : HostTable) (J : Journal) (frame : List ℕ) → IsRun H J
+    → verdict_at H.local (network J).rings frame ≡ verdict_of (registers_of H J) frame

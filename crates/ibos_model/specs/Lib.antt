@@ -6,6 +6,7 @@ pub mod Jars
 pub mod Screen
 pub mod Rings
 pub mod Network
+pub mod Registers
 pub mod Logs
 pub mod OwnBell
 pub mod Outcomes

@@ -3,11 +3,12 @@
 #![tactic(auto)]
 
 ghost use Rattle.ibos_model.specs.Laws.{AreFrameFronts, AreFronts, AreOfTheirActs, AreOrdered};
+ghost use Rattle.ibos_model.specs.Laws.{AreFirst, AreTheDevices, IsTheDevices};
 ghost use Rattle.ibos_model.specs.Laws.{AreRuns, AreSetsPut, AreUnbornBare, DoGoOn};
 ghost use Rattle.ibos_model.specs.Laws.{IsIsolated, IsIsolatedOverTwo, IsCarriedAlways};
 ghost use Rattle.ibos_model.specs.Laws.{IsChromeKept, IsOriginShown, IsUnchanged};
 
-use ibos_nic::rules_are_exact;
+use ibos_nic::{rules_are_exact, slots_go_around};
 use ibos_origin::{origins_are_printable, urls_begin_with_their_origin};
 
 /// In every run each instance is told what the facts that concern it give, whatever else happens.
@@ -93,4 +94,17 @@ pub fn rings_are_ordered()
 {
     // Called for what its contract says.
     rules_are_exact();
+}
+
+/// The registers of journals, which are counted from acts, are those that the device makes by its
+/// own rules: at first, after each entry of a run, and where it judges a frame that comes.
+pub fn registers_are_the_devices()
+    ensures first { AreFirst }
+    ensures after { AreTheDevices }
+    ensures verdict { IsTheDevices }
+{
+    // Called for what their contracts say.
+    rules_are_exact();
+    slots_go_around();
+    rings_are_ordered();
 }
