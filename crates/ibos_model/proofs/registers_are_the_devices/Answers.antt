@@ -1,0 +1,12 @@
+use Rattle.ibos_model.proofs.DeviceRegisters.{first_are, entries_are, verdict_is}
+use Rattle.ibos_model.proofs.registers_are_the_devices.Goals as goal
+
+pub returns-clause-first : goal.returns-clause-first
+returns-clause-first c = first_are
+
+pub returns-clause-after : goal.returns-clause-after
+returns-clause-after c = entries_are (λ values reg value is. (c.rules_are_exact.ensures.write values reg value).0 is)
+    c.slots_go_around.ensures.reached c.slots_go_around.ensures.next c.rings_are_ordered.ensures
+
+pub returns-clause-verdict : goal.returns-clause-verdict
+returns-clause-verdict c = verdict_is c.rings_are_ordered.ensures
