@@ -16,6 +16,8 @@ pub mod Isolated
 pub mod Unborn
 pub mod RingCounts
 pub mod DeviceRegisters
+pub mod PostedHandles
+pub mod ReadFrames
 pub mod Chrome
 pub mod BarOrigins
 pub mod Denials

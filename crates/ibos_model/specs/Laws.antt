@@ -1,5 +1,5 @@
 -- The laws of journals.
-use Rattle.std.specs.Prelude.{ℕ, ◌≡◌, ◌≤◌, ◌+◌, ◌-◌, List, [], ◌∷◌, ◌++◌, Bool, false, ◌&&◌, ◌||◌, length, take}
+use Rattle.std.specs.Prelude.{ℕ, ◌≡◌, ◌≤◌, ◌+◌, ◌-◌, List, [], ◌∷◌, ◌++◌, Bool, false, ◌&&◌, ◌||◌, length, take, map, drop}
 use Rattle.std.specs.Prelude.{Option, Some}
 use Rattle.ibos_kinds.specs.declared.names.Instance.{Instance}
 use Rattle.ibos_kinds.specs.declared.act.Act.{Act}
@@ -17,9 +17,10 @@ use Rattle.ibos_nic.specs.declared.reg.Reg.{Reg}
 use Rattle.ibos_nic.specs.Device.{verdict_of}
 use Rattle.ibos_nic.specs.Registers.{is_enabled}
 use Rattle.ibos_nic.specs.Rings.{RingValues}
-use Rattle.ibos_model.specs.Rings.{Rings, verdict_at}
+use Rattle.ibos_model.specs.Rings.{Rings, handles_after, verdict_at}
 use Rattle.ibos_model.specs.Registers.{first_registers, registers_by, registers_of}
 use Rattle.ibos_model.specs.Network.{Network, network}
+use Rattle.ibos_model.specs.Posts.{done_count, frames_for, next_turn, posts}
 use Rattle.ibos_model.specs.Runs.{Follows, GoesOn, IsRun, run, run_from}
 use Rattle.ibos_model.specs.Text.{text_of}
 use Rattle.ibos_model.specs.Facts.{facts, Suits}
@@ -172,3 +173,15 @@ AreTheDevices = (H : HostTable) (J : Journal) (e : Entry) (reg : Reg) → IsRun 
 abbrev pub IsTheDevices : Type 0
 IsTheDevices = (H : HostTable) (J : Journal) (frame : List ℕ) → IsRun H J
     → verdict_at H.local (network J).rings frame ≡ verdict_of (registers_of H J) frame
+
+-- Buffers come back in the order of their posts: the next frame that is taken back lies under the
+-- handle of the oldest post that is not, whose turn is then one higher.
+abbrev pub AreLentInOrder : Type 0
+AreLentInOrder = (H : HostTable) (J : Journal) → IsRun H J → handles_after (network J).rings
+    ≡ map next_turn (drop (network J).rings.receive.taken (posts J))
+
+-- Of the frames that bells gave an instance those are unread that it is not done with, and it is
+-- done with them in their order.
+abbrev pub AreReadInOrder : Type 0
+AreReadInOrder = (H : HostTable) (J : Journal) (p : Instance) → IsRun H J
+    → (network J).unread p ≡ drop (done_count p J) (frames_for p J)

@@ -7,6 +7,7 @@ pub mod Screen
 pub mod Rings
 pub mod Network
 pub mod Registers
+pub mod Posts
 pub mod Logs
 pub mod OwnBell
 pub mod Outcomes

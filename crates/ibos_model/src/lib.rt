@@ -3,6 +3,7 @@
 #![tactic(auto)]
 
 ghost use Rattle.ibos_model.specs.Laws.{AreFrameFronts, AreFronts, AreOfTheirActs, AreOrdered};
+ghost use Rattle.ibos_model.specs.Laws.{AreLentInOrder, AreReadInOrder};
 ghost use Rattle.ibos_model.specs.Laws.{AreFirst, AreTheDevices, IsTheDevices};
 ghost use Rattle.ibos_model.specs.Laws.{AreRuns, AreSetsPut, AreUnbornBare, DoGoOn};
 ghost use Rattle.ibos_model.specs.Laws.{IsIsolated, IsIsolatedOverTwo, IsCarriedAlways};
@@ -106,5 +107,16 @@ pub fn registers_are_the_devices()
     // Called for what their contracts say.
     rules_are_exact();
     slots_go_around();
+    rings_are_ordered();
+}
+
+/// In every run receive buffers come back in the order of their posts, each with its turn one
+/// higher, and of the frames that bells gave an instance those are unread that it is not done with.
+pub fn frames_keep_their_order()
+    ensures lent { AreLentInOrder }
+    ensures read { AreReadInOrder }
+{
+    // Called for what their contracts say.
+    rules_are_exact();
     rings_are_ordered();
 }
