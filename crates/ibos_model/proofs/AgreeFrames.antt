@@ -154,8 +154,8 @@ unfolding tabs sets_of network
 bell_agrees H p o J w suits =
     let n = network J in
     let is = bell_told H.local p (ear_in H (tabs H J) n) (unread_count n) (handles_after n.rings) n.pending
-        ∙ ap (λ ear. own_bell H.local p ear (length (n.unread p)) (filter (is_for H.local p) n.pending))
-        (ear_same o (endpoint_for H) (n.flows p) ((tabs H J).page p) ((tabs H J).is_gone p) suits) in
+    ∙ ap (λ ear. own_bell H.local p ear (length (n.unread p)) (filter (is_for H.local p) n.pending))
+    (ear_same o (endpoint_for H) (n.flows p) ((tabs H J).page p) ((tabs H J).is_gone p) suits) in
     record {
       told = ap (map Told) is ∙ sym (append-nil _);
       mine = ap (λ items. record (mine_of H p o J) { unread = n.unread p ++ frames_in items; pending = [] }) is;

@@ -14,19 +14,18 @@ use Rattle.ibos_kinds.specs.declared.rule.Rule.TheVariants.{M1}
 use Rattle.ibos_nic.specs.declared.reg.Reg.{Reg}
 use Rattle.ibos_nic.specs.declared.reg.Reg.TheVariants.{Ctrl, Icr, Ims, Imc, Rctl, Tctl, Rdbal, Rdbah, Rdlen, Rdh, Rdt, Tdbal, Tdbah, Tdlen, Tdh, Tdt, Mpc}
 use Rattle.ibos_nic.specs.Bits.{overrun_cause}
-use Rattle.ibos_nic.specs.Device.{is_let_in, verdict_of, is_for_us, own_address}
+use Rattle.ibos_nic.specs.Device.{is_let_in, is_for_us}
 use Rattle.ibos_nic.specs.Parts.{part_of, reg_at}
 use Rattle.ibos_nic.specs.Permits.{MayWrite}
-use Rattle.ibos_nic.specs.Registers.{Registers, after_heard, after_missed, after_read, after_write, distance_among, is_enabled, slot_among, slot_behind, with_cause, with_reg}
-use Rattle.ibos_nic.specs.Rules.{of_reg as of_reg_rule, receive_rule, write_rule, write_rule_of}
+use Rattle.ibos_nic.specs.Registers.{after_heard, after_read, after_write, distance_among, is_enabled, slot_among, slot_behind, with_cause, with_reg}
+use Rattle.ibos_nic.specs.Rules.{of_reg as of_reg_rule, write_rule, write_rule_of}
 use Rattle.ibos_origin.specs.Hosts.{HostTable}
 use Rattle.ibos_model.specs.Journal.{Entry, Journal, is_ok}
 use Rattle.ibos_model.specs.Laws.{AreFirst, AreOrdered, AreTheDevices, IsOrdered, IsTheDevices}
 use Rattle.ibos_model.specs.Network.{network}
 use Rattle.ibos_model.specs.Outcomes.{answer, out}
 use Rattle.ibos_model.specs.Registers.{arrived_at, read_at, registers_by, registers_of, written_at}
-use Rattle.ibos_model.specs.Rings.{Rings, address_high, address_low, arrived, belled, mac_byte, no_rings, of_reg, posted, read_from, register, values_in, verdict_at, written_to}
-use Rattle.ibos_model.specs.Runs.{IsRun}
+use Rattle.ibos_model.specs.Rings.{Rings, address_high, address_low, arrived, mac_byte, of_reg, posted, read_from, register, values_in, verdict_at, written_to}
 use Rattle.ibos_model.proofs.EntriesAgree.{entry}
 use Rattle.ibos_model.proofs.Isolated.{as_entry}
 use Rattle.ibos_model.proofs.RingCounts.{WritesMay}

@@ -16,6 +16,9 @@ pub mod Isolated
 pub mod Unborn
 pub mod RingCounts
 pub mod DeviceRegisters
+pub mod QuietActs
+pub mod PendingFrames
+pub mod RegisterActs
 pub mod PostedHandles
 pub mod ReadFrames
 pub mod Chrome

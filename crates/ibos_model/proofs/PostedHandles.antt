@@ -1,5 +1,5 @@
 -- Receive buffers come back under the handles of their posts, one turn higher.
-use Rattle.std.proofs.Common.{◌≡◌, ◌≢◌, ℕ, ◌+◌, ◌-◌, ◌≤◌, ◌==◌, zero, suc, List, [], ◌∷◌, ◌++◌, Bool, true, false, Option, Some, None, refl, sym, ◌∙◌, ap, subst, arith, length, append-nil, drop, take, map}
+use Rattle.std.proofs.Common.{◌≡◌, ◌≢◌, ℕ, ◌+◌, ◌-◌, zero, suc, List, [], ◌∷◌, ◌++◌, false, Option, Some, None, refl, sym, ◌∙◌, ap, subst, arith, length, append-nil, drop, take, map}
 use Rattle.std.specs.Prelude.{if◌then◌else◌, slice_index}
 use Rattle.std.specs.List.{list_any}
 use Rattle.std.proofs.lemmas.Bool.Decides.{nat_tests}
@@ -11,17 +11,9 @@ use Rattle.ibos_kinds.specs.declared.names.Verdict.{Verdict}
 use Rattle.ibos_kinds.specs.declared.names.Verdict.TheVariants.{Filtered, Missed, Heard}
 use Rattle.ibos_kinds.specs.declared.rule.Rule.{Rule}
 use Rattle.ibos_pool.specs.declared.name.Name.{Name}
-use Rattle.ibos_pool.specs.declared.name.Ring.{Ring}
-use Rattle.ibos_pool.specs.declared.name.Ring.TheVariants.{Receive, Transmit}
 use Rattle.ibos_pool.specs.Names.{same_name}
-use Rattle.ibos_nic.specs.declared.part.Part.{Part}
-use Rattle.ibos_nic.specs.declared.part.Part.TheVariants.{Tail}
-use Rattle.ibos_nic.specs.declared.part.RingPart.{RingPart}
-use Rattle.ibos_nic.specs.declared.reg.Reg.{Reg}
-use Rattle.ibos_nic.specs.declared.reg.Reg.TheVariants.{Icr}
-use Rattle.ibos_nic.specs.Parts.{part_of, reg_at}
+use Rattle.ibos_nic.specs.Parts.{reg_at}
 use Rattle.ibos_nic.specs.Registers.{is_enabled}
-use Rattle.ibos_nic.specs.Rings.{values_written}
 use Rattle.ibos_nic.specs.Rules.{receive_name, receive_rule, with_turn}
 use Rattle.ibos_origin.specs.Hosts.{HostTable}
 use Rattle.ibos_model.specs.Journal.{Entry, Journal, is_ok}
@@ -29,10 +21,11 @@ use Rattle.ibos_model.specs.Laws.{AreLentInOrder, AreOrdered, IsOrdered}
 use Rattle.ibos_model.specs.Network.{network}
 use Rattle.ibos_model.specs.Outcomes.{answer, out}
 use Rattle.ibos_model.specs.Posts.{next_turn, posts}
-use Rattle.ibos_model.specs.Rings.{Rings, arrived, belled, handle_after, no_rings, of_reg, posted, read_from, turns_after, values_in, verdict_at, with_values, written_to}
+use Rattle.ibos_model.specs.Rings.{Rings, arrived, belled, handle_after, posted, turns_after, verdict_at}
 use Rattle.ibos_model.specs.Runs.{IsRun}
 use Rattle.ibos_model.proofs.EntriesAgree.{entry}
 use Rattle.ibos_model.proofs.Isolated.{as_entry}
+use Rattle.ibos_model.proofs.RegisterActs.{Claim, missed_leaves, reads_leave, writes_leave}
 use Rattle.ibos_model.proofs.RingCounts.{PostsMay}
 
 -- names of receive buffers, each once
@@ -85,36 +78,13 @@ record IsPosted (count taken : ℕ) (names : List Name) (turns : List ℕ) (hs :
 abbrev Posted : Rings → List Handle → Type 0
 Posted r hs = IsPosted r.receive.posted r.receive.taken r.names r.turns hs
 
--- ---- registers, and frames that come
-
-part_keeps : (r : Rings) (hs : List Handle) (value : ℕ) (ring : Ring) (part : Part) → Posted r hs → Posted (with_values ring (values_written part value (values_in r ring)) r) hs
-part_keeps r hs value Receive Tail is = is
-part_keeps r hs value Receive other is = is
-part_keeps r hs value Transmit other is = is
-
-write_keeps : (r : Rings) (hs : List Handle) (reg : Reg) (value : ℕ) (p : Option RingPart) → Posted r hs → Posted (written_to reg p value r) hs
-write_keeps r hs reg value None is = is
-write_keeps r hs reg value (Some p) is = part_keeps r hs value p.ring p.part is
-
-writes_keep : (r : Rings) (hs : List Handle) (value : ℕ) (o : Option Reg) (ok : Bool) → Posted r hs → Posted (if ok then of_reg o (λ reg. written_to reg (part_of reg) value r) r else r) hs
-writes_keep r hs value o false is = is
-writes_keep r hs value None true is = is
-writes_keep r hs value (Some reg) true is = write_keeps r hs reg value (part_of reg) is
-
-reads_keep : (r : Rings) (hs : List Handle) (o : Option Reg) (ok : Bool) → Posted r hs → Posted (if ok then of_reg o (λ reg. read_from reg r) r else r) hs
-reads_keep r hs o false is = is
-reads_keep r hs None true is = is
-reads_keep r hs (Some Icr) true is = is
-reads_keep r hs (Some other) true is = is
-
-missed_keeps : (r : Rings) (hs : List Handle) (enabled : Bool) (causes missed : ℕ) → Posted r hs → Posted (if enabled then record r { causes = causes; missed = missed } else r) hs
-missed_keeps r hs true causes missed is = is
-missed_keeps r hs false causes missed is = is
+abbrev IsPostedWith : List Handle → Claim
+IsPostedWith hs heard count taken names turns = IsPosted count taken names turns hs
 
 arrive_keeps : (r : Rings) (hs : List Handle) (verdict : Verdict) → Posted r hs → Posted (arrived verdict r) hs
 arrive_keeps r hs Filtered is = is
 arrive_keeps r hs Heard is = is
-arrive_keeps r hs Missed is = missed_keeps r hs (is_enabled r.receive.control) _ _ is
+arrive_keeps r hs Missed is = missed_leaves (IsPostedWith hs) r (is_enabled r.receive.control) _ _ is
 
 -- ---- posts and bells
 
@@ -125,7 +95,7 @@ post_keeps may r hs ws slot handle ordered (Some rule) broken is = subst (Posted
 post_keeps may r hs ws slot handle ordered None allowed is =
     let due = may r.receive r.names r.turns slot handle allowed in
     let old : drop r.receive.taken (hs ++ handle ∷ []) ≡ drop r.receive.taken hs ++ handle ∷ [] = drop-append-le r.receive.taken hs (handle ∷ [])
-        (omega (arith, is.counted, ordered.receive.taken, ordered.receive.passed, ordered.receive.rung)) in
+    (omega (arith, is.counted, ordered.receive.taken, ordered.receive.passed, ordered.receive.rung)) in
     let last : handle_after r.turns (receive_name handle.name) ≡ next_turn handle = ap (λ turn. let h : Handle = record { name = handle.name; turn = turn + 1 } in h) (sym due.newest) in
     record {
       counted = length-append hs (handle ∷ []) ∙ ap (λ n. n + 1) is.counted;
@@ -156,9 +126,9 @@ entry_keeps : PostsMay → (H : HostTable) (J : Journal) (a : Act) (w : List ℕ
     → Posted (network (entry H J a w ∷ J)).rings (posts (entry H J a w ∷ J))
 unfolding network
 entry_keeps may H J (RegRead offset) w ordered is =
-    subst (Posted (network (entry H J (RegRead offset) w ∷ J)).rings) (sym (append-nil (posts J))) (reads_keep (network J).rings (posts J) (reg_at offset) (is_ok (out H J (RegRead offset)).head) is)
+    subst (Posted (network (entry H J (RegRead offset) w ∷ J)).rings) (sym (append-nil (posts J))) (reads_leave (IsPostedWith (posts J)) (network J).rings (reg_at offset) (is_ok (out H J (RegRead offset)).head) is)
 entry_keeps may H J (RegWrite offset value) w ordered is =
-    subst (Posted (network (entry H J (RegWrite offset value) w ∷ J)).rings) (sym (append-nil (posts J))) (writes_keep (network J).rings (posts J) value (reg_at offset) (is_ok (out H J (RegWrite offset value)).head) is)
+    subst (Posted (network (entry H J (RegWrite offset value) w ∷ J)).rings) (sym (append-nil (posts J))) (writes_leave (IsPostedWith (posts J)) (network J).rings value (reg_at offset) (is_ok (out H J (RegWrite offset value)).head) is)
 entry_keeps may H J (RxPost slot handle) w ordered is =
     let r = (network J).rings in
     post_keeps may r (posts J) (network J).pending slot handle ordered (receive_rule r.receive r.names r.turns slot handle) refl is

@@ -1,5 +1,5 @@
 -- The counts of the rings stay in order.
-use Rattle.std.proofs.Common.{◌≡◌, ◌≢◌, ℕ, ◌+◌, ◌-◌, ◌<◌, ◌≤◌, ◌==◌, List, [], ◌∷◌, ◌++◌, Bool, true, false, not, ◌||◌, Option, Some, None, inl, inr, refl, sym, ◌∙◌, ap, subst, arith, length, append-nil, drop, take}
+use Rattle.std.proofs.Common.{◌≡◌, ◌≢◌, ℕ, ◌+◌, ◌-◌, ◌==◌, List, [], ◌∷◌, ◌++◌, Bool, true, false, not, ◌||◌, Option, Some, None, inl, inr, refl, sym, ◌∙◌, ap, subst, arith, length, append-nil, take}
 use Rattle.std.specs.Prelude.{if◌then◌else◌, slice_index}
 use Rattle.std.specs.Int.{bytes_high_first}
 use Rattle.std.proofs.lemmas.Bool.Decides.{nat_tests}
@@ -26,14 +26,13 @@ use Rattle.ibos_nic.specs.Parts.{part_of, reg_at}
 use Rattle.ibos_nic.specs.Permits.{MayPostReceive, MayWrite, MayWriteIn, MayWritePart}
 use Rattle.ibos_nic.specs.Registers.{is_enabled}
 use Rattle.ibos_nic.specs.Rings.{RingValues, values_written}
-use Rattle.ibos_nic.specs.Rules.{of_reg as of_reg_rule, read_rule, receive_rule, with_turn, write_rule, write_rule_of}
+use Rattle.ibos_nic.specs.Rules.{of_reg as of_reg_rule, receive_rule, with_turn, write_rule, write_rule_of}
 use Rattle.ibos_origin.specs.Hosts.{HostTable}
 use Rattle.ibos_model.specs.Journal.{Entry, Journal, if_heard, is_ok}
-use Rattle.ibos_model.specs.Laws.{AreInOrder, AreOrdered, IsOrdered}
+use Rattle.ibos_model.specs.Laws.{AreOrdered, IsOrdered}
 use Rattle.ibos_model.specs.Network.{network}
 use Rattle.ibos_model.specs.Outcomes.{accepted, answer, out}
 use Rattle.ibos_model.specs.Rings.{Rings, arrived, belled, of_reg, posted, read_from, turns_after, values_in, verdict_at, with_values, written_to}
-use Rattle.ibos_model.specs.Runs.{IsRun}
 use Rattle.ibos_model.proofs.EntriesAgree.{entry}
 use Rattle.ibos_model.proofs.Isolated.{as_entry}
 

@@ -1,5 +1,5 @@
 -- An instance that never started has bound nothing, and has no frame.
-use Rattle.std.proofs.Common.{◌≡◌, ℕ, List, [], ◌∷◌, ◌++◌, Bool, true, false, ◌&&◌, Option, None, Ok, Err, Result, refl, sym, ◌∙◌, ap, subst}
+use Rattle.std.proofs.Common.{◌≡◌, ℕ, List, [], ◌∷◌, ◌++◌, Bool, true, false, ◌&&◌, None, Ok, Err, Result, refl, ◌∙◌, ap, subst}
 use Rattle.std.specs.Prelude.{filter, length}
 use Rattle.ibos_kinds.specs.declared.act.Act.{Act}
 use Rattle.ibos_kinds.specs.declared.act.Act.TheVariants.{Bind, Unbind, Done, RxBell}
@@ -11,11 +11,10 @@ use Rattle.ibos_kinds.specs.Bells.{Aim, aim_of, frames_in}
 use Rattle.ibos_origin.specs.Hosts.{HostTable}
 use Rattle.ibos_model.specs.Journal.{Entry, Journal, is_ok, same}
 use Rattle.ibos_model.specs.Laws.{AreUnbornBare}
-use Rattle.ibos_model.specs.Network.{bound_to, ear_in, ear_with, endpoint_for, network, unread_count}
+use Rattle.ibos_model.specs.Network.{ear_in, ear_with, endpoint_for, network, unread_count}
 use Rattle.ibos_model.specs.Outcomes.{admitted, act_outcome}
 use Rattle.ibos_model.specs.OwnBell.{is_for, own_bell, own_heard, own_unread}
 use Rattle.ibos_model.specs.Rings.{handles_after}
-use Rattle.ibos_model.specs.Runs.{IsRun}
 use Rattle.ibos_model.specs.Tabs.{Unborn, life_of, origin_in, tabs}
 use Rattle.ibos_model.proofs.Bells.{bell_told}
 use Rattle.ibos_model.proofs.EntriesAgree.{entry}
@@ -53,8 +52,8 @@ bare_after H J p (Done who) w unborn bare = (bare.0, rw (denied_own H J p who (a
 bare_after H J p RxBell w unborn bare =
     let n = network J in
     let is = bell_told H.local p (ear_in H (tabs H J) n) (unread_count n) (handles_after n.rings) n.pending
-        ∙ ap (λ life. own_bell H.local p (ear_with life (endpoint_for H (origin_in (tabs H J) p)) (n.flows p)) (length (n.unread p)) (filter (is_for H.local p) n.pending)) unborn
-        ∙ deaf H.local p (length (n.unread p)) (filter (is_for H.local p) n.pending) in
+    ∙ ap (λ life. own_bell H.local p (ear_with life (endpoint_for H (origin_in (tabs H J) p)) (n.flows p)) (length (n.unread p)) (filter (is_for H.local p) n.pending)) unborn
+    ∙ deaf H.local p (length (n.unread p)) (filter (is_for H.local p) n.pending) in
     (bare.0, ap (λ items. n.unread p ++ frames_in items) is ∙ ap (λ ws. ws ++ []) bare.1)
 bare_after H J p other w unborn bare = bare
 

@@ -78,9 +78,10 @@ own_after H o (CookieSet side who text) m = record m
 own_after H o (Go who url) m = record m { life = life_after who o (allowed H url) m.life }
 own_after H o (Bind who proto) m = record m
     { flows = flows_by true (is_ok (own_out H o (Bind who proto) m).head) (Bind who proto) m.flows }
-own_after H o (Unbind who flow) m = record m
-    { flows = flows_by true (is_ok (own_out H o (Unbind who flow) m).head) (Unbind who flow)
-    m.flows }
+own_after H o (Unbind who flow) m = record m {
+  flows = flows_by true (is_ok (own_out H o (Unbind who flow) m).head) (Unbind who flow)
+      m.flows;
+}
 own_after H o (Done who) m = record m
     { unread = unread_by true (is_ok (own_out H o (Done who) m).head) (Done who) [] m.unread }
 own_after H o other m = m

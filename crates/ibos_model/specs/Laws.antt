@@ -1,12 +1,14 @@
 -- The laws of journals.
-use Rattle.std.specs.Prelude.{ℕ, ◌≡◌, ◌≤◌, ◌+◌, ◌-◌, List, [], ◌∷◌, ◌++◌, Bool, false, ◌&&◌, ◌||◌, length, take, map, drop}
+use Rattle.std.specs.Prelude.{ℕ, ◌≡◌, ◌≤◌, ◌+◌, ◌-◌, List, [], ◌∷◌, ◌++◌, Bool, true, false, ◌&&◌, ◌||◌, length, take, map, drop}
 use Rattle.std.specs.Prelude.{Option, Some}
 use Rattle.ibos_kinds.specs.declared.names.Instance.{Instance}
 use Rattle.ibos_kinds.specs.declared.act.Act.{Act}
 use Rattle.ibos_origin.specs.Hosts.{HostTable}
 use Rattle.ibos_origin.specs.Tables.{HasPlainNames}
-use Rattle.ibos_kinds.specs.declared.act.Act.TheVariants.{Go}
-use Rattle.ibos_model.specs.Journal.{Entry, Journal, acts, frames, heard, is_accepted}
+use Rattle.ibos_kinds.specs.declared.act.Act.TheVariants.{Go, WireIn}
+use Rattle.ibos_model.specs.Journal.{Entry, Journal, Nothing, acts, frames, heard, is_accepted}
+use Rattle.ibos_model.specs.Journal.{kind_of}
+use Rattle.ibos_model.specs.Outcomes.{out}
 use Rattle.ibos_kinds.specs.declared.cookies.Cookie.{Cookie}
 use Rattle.ibos_model.specs.Focus.{Focus, focus_of, is_active}
 use Rattle.ibos_model.specs.Tabs.{Tabs, Unborn, tabs, life_of, origin_of, active_of}
@@ -185,3 +187,20 @@ AreLentInOrder = (H : HostTable) (J : Journal) → IsRun H J → handles_after (
 abbrev pub AreReadInOrder : Type 0
 AreReadInOrder = (H : HostTable) (J : Journal) (p : Instance) → IsRun H J
     → (network J).unread p ≡ drop (done_count p J) (frames_for p J)
+
+-- the act is a frame that comes
+abbrev pub is_arrival : Act → Bool
+is_arrival (WireIn frame) = true
+is_arrival other = false
+
+-- No other act has to do with the device's log.
+abbrev pub AreHeardAlone : Type 0
+AreHeardAlone = (H : HostTable) (J : Journal) (a : Act) → is_arrival a ≡ false
+    → kind_of (out H J a) ≡ Nothing
+
+-- As many frames were heard as the rings count, and the last of them, those that were not taken
+-- back, are pending.
+abbrev pub ArePendingLast : Type 0
+ArePendingLast = (H : HostTable) (J : Journal) → IsRun H J
+    → ((network J).rings.heard ≡ length (heard J))
+    × ((network J).pending ≡ drop (network J).rings.receive.taken (heard J))

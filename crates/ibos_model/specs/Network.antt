@@ -14,9 +14,9 @@ use Rattle.ibos_kinds.specs.Flows.{Bound}
 use Rattle.ibos_kinds.specs.Parties.{is_by, is_to}
 use Rattle.ibos_origin.specs.Endpoints.{origin_endpoint}
 use Rattle.ibos_origin.specs.Hosts.{HostTable}
-use Rattle.ibos_model.specs.Journal.{Entry, Journal, if_heard, is_accepted}
+use Rattle.ibos_model.specs.Journal.{Journal, if_heard, is_accepted}
 use Rattle.ibos_model.specs.Rings.{Rings, handles_after, no_rings, rings_by}
-use Rattle.ibos_model.specs.Tabs.{Tabs, Life, Unborn, Alive, Gone, life_in, origin_in, tabs}
+use Rattle.ibos_model.specs.Tabs.{Tabs, Life, Unborn, Alive, Gone, life_in, origin_in}
 
 -- The flows and unread frames of an instance stay what they were when it ended. They are asked for
 -- while it lives, and not after.

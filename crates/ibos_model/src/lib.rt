@@ -3,7 +3,7 @@
 #![tactic(auto)]
 
 ghost use Rattle.ibos_model.specs.Laws.{AreFrameFronts, AreFronts, AreOfTheirActs, AreOrdered};
-ghost use Rattle.ibos_model.specs.Laws.{AreLentInOrder, AreReadInOrder};
+ghost use Rattle.ibos_model.specs.Laws.{AreHeardAlone, ArePendingLast, AreLentInOrder, AreReadInOrder};
 ghost use Rattle.ibos_model.specs.Laws.{AreFirst, AreTheDevices, IsTheDevices};
 ghost use Rattle.ibos_model.specs.Laws.{AreRuns, AreSetsPut, AreUnbornBare, DoGoOn};
 ghost use Rattle.ibos_model.specs.Laws.{IsIsolated, IsIsolatedOverTwo, IsCarriedAlways};
@@ -111,12 +111,19 @@ pub fn registers_are_the_devices()
 }
 
 /// In every run receive buffers come back in the order of their posts, each with its turn one
-/// higher, and of the frames that bells gave an instance those are unread that it is not done with.
+/// higher; the frames that are pending are the last that were heard; and of the frames that bells
+/// gave an instance those are unread that it is not done with.
 pub fn frames_keep_their_order()
     ensures lent { AreLentInOrder }
+    ensures pending { ArePendingLast }
     ensures read { AreReadInOrder }
 {
     // Called for what their contracts say.
     rules_are_exact();
     rings_are_ordered();
 }
+
+/// No act but a frame that comes has to do with the device's log.
+pub fn frames_alone_are_heard()
+    ensures { AreHeardAlone }
+{}
