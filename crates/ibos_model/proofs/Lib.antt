@@ -23,4 +23,5 @@ pub mod PostedHandles
 pub mod ReadFrames
 pub mod Chrome
 pub mod BarOrigins
+pub mod PageEndpoints
 pub mod Denials

@@ -1,9 +1,10 @@
 -- The laws of journals.
-use Rattle.std.specs.Prelude.{ℕ, ◌≡◌, ◌≤◌, ◌+◌, ◌-◌, List, [], ◌∷◌, ◌++◌, Bool, true, false, ◌&&◌, ◌||◌, length, take, map, drop}
-use Rattle.std.specs.Prelude.{Option, Some}
+use Rattle.std.specs.Prelude.{ℕ, ◌≡◌, ◌≤◌, ◌+◌, ◌-◌, List, [], ◌∷◌, ◌++◌, Bool, true, false, ◌&&◌}
+use Rattle.std.specs.Prelude.{◌||◌, length, take, map, drop, Option, Some}
 use Rattle.ibos_kinds.specs.declared.names.Instance.{Instance}
 use Rattle.ibos_kinds.specs.declared.act.Act.{Act}
 use Rattle.ibos_origin.specs.Hosts.{HostTable}
+use Rattle.ibos_origin.specs.Pages.{Page as PageValue, endpoint_of}
 use Rattle.ibos_origin.specs.Tables.{HasPlainNames}
 use Rattle.ibos_kinds.specs.declared.act.Act.TheVariants.{Go, WireIn}
 use Rattle.ibos_model.specs.Journal.{Entry, Journal, Nothing, acts, frames, heard, is_accepted}
@@ -21,7 +22,7 @@ use Rattle.ibos_nic.specs.Registers.{is_enabled}
 use Rattle.ibos_nic.specs.Rings.{RingValues}
 use Rattle.ibos_model.specs.Rings.{Rings, handles_after, verdict_at}
 use Rattle.ibos_model.specs.Registers.{first_registers, registers_by, registers_of}
-use Rattle.ibos_model.specs.Network.{Network, network}
+use Rattle.ibos_model.specs.Network.{Network, endpoint_for, network}
 use Rattle.ibos_model.specs.Posts.{done_count, frames_for, next_turn, posts}
 use Rattle.ibos_model.specs.Runs.{Follows, GoesOn, IsRun, run, run_from}
 use Rattle.ibos_model.specs.Text.{text_of}
@@ -204,3 +205,9 @@ abbrev pub ArePendingLast : Type 0
 ArePendingLast = (H : HostTable) (J : Journal) → IsRun H J
     → ((network J).rings.heard ≡ length (heard J))
     × ((network J).pending ≡ drop (network J).rings.receive.taken (heard J))
+
+-- Each instance that started has the endpoint of its page, where the host table has plain names, as
+-- each one has that was read.
+abbrev pub AreAtEndpoints : Type 0
+AreAtEndpoints = (H : HostTable) (J : Journal) (p : Instance) (page : PageValue) → HasPlainNames H
+    → (tabs H J).page p ≡ Some page → endpoint_for H (origin_of H J p) ≡ endpoint_of page

@@ -1,7 +1,7 @@
 -- What the driver and the device made of the two rings, and of the other registers (Intel 8254x,
 -- chapter 13). It is counts and names: there is no memory, descriptor or buffer in it.
-use Rattle.std.specs.Prelude.{ℕ, ◌+◌, ◌-◌, ◌*◌, ◌/◌, ◌%◌, ◌^◌, ◌==◌, ◌||◌, List, [], ◌∷◌, ◌++◌, Bool}
-use Rattle.std.specs.Prelude.{not, bit_and, bit_or, min, map, take, drop, replicate, slice_index}
+use Rattle.std.specs.Prelude.{ℕ, ◌+◌, ◌-◌, ◌*◌, ◌/◌, ◌%◌, ◌^◌, ◌==◌, ◌||◌, List, [], ◌∷◌, ◌++◌}
+use Rattle.std.specs.Prelude.{Bool, not, bit_and, bit_or, min, map, take, drop, replicate, slice_index}
 use Rattle.std.specs.Prelude.{Option, Some, None, if◌then◌else◌}
 use Rattle.std.specs.Int.{w32, bit_not, bytes_high_first}
 use Rattle.ibos_kinds.specs.declared.names.Handle.{Handle}

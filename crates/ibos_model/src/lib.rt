@@ -3,14 +3,15 @@
 #![tactic(auto)]
 
 ghost use Rattle.ibos_model.specs.Laws.{AreFrameFronts, AreFronts, AreOfTheirActs, AreOrdered};
-ghost use Rattle.ibos_model.specs.Laws.{AreHeardAlone, ArePendingLast, AreLentInOrder, AreReadInOrder};
-ghost use Rattle.ibos_model.specs.Laws.{AreFirst, AreTheDevices, IsTheDevices};
+ghost use Rattle.ibos_model.specs.Laws.{AreAtEndpoints, AreFirst, AreTheDevices, IsTheDevices};
+ghost use Rattle.ibos_model.specs.Laws.{AreHeardAlone, AreLentInOrder, ArePendingLast};
+ghost use Rattle.ibos_model.specs.Laws.{AreReadInOrder};
 ghost use Rattle.ibos_model.specs.Laws.{AreRuns, AreSetsPut, AreUnbornBare, DoGoOn};
 ghost use Rattle.ibos_model.specs.Laws.{IsIsolated, IsIsolatedOverTwo, IsCarriedAlways};
 ghost use Rattle.ibos_model.specs.Laws.{IsChromeKept, IsOriginShown, IsUnchanged};
 
 use ibos_nic::{rules_are_exact, slots_go_around};
-use ibos_origin::{origins_are_printable, urls_begin_with_their_origin};
+use ibos_origin::{endpoints_follow_origins, origins_are_printable, urls_begin_with_their_origin};
 
 /// In every run each instance is told what the facts that concern it give, whatever else happens.
 pub fn isolation()
@@ -49,8 +50,8 @@ pub fn origins_show_whole()
     origins_are_printable();
 }
 
-/// A denied act changes nothing that a journal says: tabs, focus, jars, contents, the screen, flows,
-/// frames, rings and registers.
+/// A denied act changes nothing that a journal says: tabs, focus, jars, contents, the screen,
+/// flows, frames, rings and registers.
 pub fn denials_change_nothing()
     ensures { IsUnchanged }
 {}
@@ -127,3 +128,11 @@ pub fn frames_keep_their_order()
 pub fn frames_alone_are_heard()
     ensures { AreHeardAlone }
 {}
+
+/// An instance's flows are bound to where its page is, for every host table with plain names.
+pub fn instances_are_at_their_pages()
+    ensures { AreAtEndpoints }
+{
+    // Called for what its contract says.
+    endpoints_follow_origins();
+}
