@@ -1,6 +1,6 @@
 -- Which flow a frame belongs to.
 use Rattle.std.proofs.Common.{◌≡◌, ℕ, ◌<◌, ◌↔◌, Bool, true, false, Option, Some, None, Result, Ok, Err, refl, sym, ◌∙◌, ap, subst, arith}
-use Rattle.std.specs.Prelude.{IfSome, ◌==◌, ◌&&◌, not, unwrap_or, if◌then◌else◌}
+use Rattle.std.specs.Prelude.{IfSome, unwrap_or, if◌then◌else◌}
 use Rattle.std.proofs.lemmas.Bool.Decides.{nat_tests}
 use Rattle.ibos_kinds.specs.declared.names.Instance.{Instance}
 use Rattle.ibos_kinds.specs.declared.names.Proto.{Proto}
@@ -12,7 +12,8 @@ use Rattle.ibos_kinds.specs.declared.rule.Rule.TheVariants.{F12, F13}
 use Rattle.ibos_kinds.specs.Limits.{IsNamed}
 use Rattle.ibos_kinds.specs.Parties.{same}
 use Rattle.ibos_kinds.specs.Ports.{AreOwned, HaveOwners, owner_of, port_of}
-use Rattle.ibos_flow.specs.Flows.{Bound, Table, bound_by, proto_at, is_over, same_proto, same_end, admitted, admitted_by, named, found, found_for, checked, checked_for, IsOpen, Suits, HasEnd, AreFound, AreMissed, AreForeign, AreChecked}
+use Rattle.ibos_kinds.specs.Flows.{Bound, proto_at, is_over, same_end, admitted_by, named, found_by}
+use Rattle.ibos_flow.specs.Flows.{Table, bound_by, found, checked_for, IsOpen, Suits, HasEnd, AreFound, AreMissed, AreForeign, AreChecked}
 
 end_is : (p q : Endpoint) → same_end p q ≡ true → p ≡ q
 end_is p q h =
@@ -85,7 +86,7 @@ module _ (owned : AreOwned) (owners : HaveOwners) where
   answer t h low = by_owner (owner_of h.port) refl
     where
       by_owner : (o : Option (Instance × ℕ)) → owner_of h.port ≡ o → Answer t h
-      by_owner None is = Nobody (ap (λ o. found_for t o h) is) (λ who flow s. clash who flow (sym is ∙ suits_owner t h who flow s))
+      by_owner None is = Nobody (ap (λ o. found_by (bound_by t) o h) is) (λ who flow s. clash who flow (sym is ∙ suits_owner t h who flow s))
         where
           clash : (who : Instance) (flow : ℕ) → None ≡ Some (pair who flow) → ⊥
           clash who flow e = cc
@@ -104,19 +105,19 @@ module _ (owned : AreOwned) (owners : HaveOwners) where
           suits b e p = record { named = facts.1; few = facts.2; port = facts.0; is_open = (b, e, p) }
 
           by_case : Case (bound_by t w) f h → Answer t h
-          by_case (Closed e no_flow) = Nobody (ap (λ o. found_for t o h) is ∙ ap (λ r. named w r) e)
+          by_case (Closed e no_flow) = Nobody (ap (λ o. found_by (bound_by t) o h) is ∙ ap (λ r. named w r) e)
               (λ q i s.
               let Q : Instance × ℕ → Type 0 = λ owner. IsOpen t owner.0 owner.1 h.proto in
               let opened : IsOpen t w f h.proto = subst Q (one q i s) s.is_open in
               no_flow opened.0 opened.1 opened.2)
-          by_case (Foreign b e x p other) = Another w f (ap (λ o. found_for t o h) is ∙ ap (λ r. named w r) e) (suits b x p)
+          by_case (Foreign b e x p other) = Another w f (ap (λ o. found_by (bound_by t) o h) is ∙ ap (λ r. named w r) e) (suits b x p)
               (λ has.
               let R : Option Bound → Type 0 = λ y. IfSome y (λ bound. bound.remote ≡ h.remote) in
               other (subst R x has))
               one
           by_case (Own b e x p own) =
               let R : Option Bound → Type 0 = λ y. IfSome y (λ bound. bound.remote ≡ h.remote) in
-              Its w f (ap (λ o. found_for t o h) is ∙ ap (λ r. named w r) e) (suits b x p) (subst R (sym x) own) one
+              Its w f (ap (λ o. found_by (bound_by t) o h) is ∙ ap (λ r. named w r) e) (suits b x p) (subst R (sym x) own) one
 
   -- no two answers are one
   ok_f12 : (x : Instance × ℕ) → found_is (Ok x) ≡ found_is (Err F12) → ⊥
@@ -214,7 +215,7 @@ pub are_checked : AreChecked
 are_checked t h who flow low = by_owner (owner_of h.port)
   where
     Claim : Option (Instance × ℕ) → Type 0
-    Claim o = (checked_for t who o h ≡ Ok flow) ↔ (found_for t o h ≡ Ok (who, flow))
+    Claim o = (checked_for t who o h ≡ Ok flow) ↔ (found_by (bound_by t) o h ≡ Ok (who, flow))
 
     by_owner : (o : Option (Instance × ℕ)) → Claim o
     by_owner None = ((λ e. absurd (clash e)), (λ e. absurd (clash_pair e)))

@@ -1,12 +1,13 @@
 -- Where the flows of instances stand.
-use Rattle.std.proofs.Common.{◌≡◌, ◌≢◌, ℕ, ◌<◌, ◌≤◌, Bool, true, false, List, [], length, Option, Some, None, Result, Ok, Err, refl, sym, ◌∙◌, ap, arith, get_or, replicate}
+use Rattle.std.proofs.Common.{◌≡◌, ◌≢◌, ℕ, ◌<◌, Bool, true, false, length, Option, Some, None, Result, Ok, Err, refl, sym, ◌∙◌, ap, arith, get_or, replicate}
 use Rattle.std.specs.Prelude.{OnOk}
-use Rattle.std.specs.Prelude.{nat_lt, ◌&&◌, slice_set, if◌then◌else◌}
+use Rattle.std.specs.Prelude.{slice_set, if◌then◌else◌}
 use Rattle.std.proofs.lemmas.Bool.Decides.{nat_tests}
 use Rattle.std.proofs.lemmas.List.{get_or-set_same, get_or-set_other, get_or_read, get_or-replicate}
 use Rattle.ibos_kinds.specs.declared.names.Instance.{Instance}
 use Rattle.ibos_kinds.specs.Limits.{IsNamed}
-use Rattle.ibos_flow.specs.Flows.{Bound, Table, place_of, is_named, bound_by}
+use Rattle.ibos_kinds.specs.Flows.{Bound}
+use Rattle.ibos_flow.specs.Flows.{Table, place_of, is_named, bound_by}
 
 pub bound-at : (table : Table) (who : Instance) → IsNamed who → bound_by table who ≡ get_or table (place_of who) None
 unfolding bound_by

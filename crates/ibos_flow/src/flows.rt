@@ -1,8 +1,8 @@
 // The flows of one instance.
 ghost use Rattle.std.specs.Prelude.{◌≡◌, ◌<◌, ◌≤◌, length, OnOk, OnErr};
-ghost use Rattle.ibos_flow.specs.Flows as spec;
-ghost use Rattle.ibos_flow.specs.Flows.{admitted, bind_answer, close_answer, no_flows, proto_at};
-ghost use Rattle.ibos_flow.specs.Flows.{with_flow, without_flow};
+ghost use Rattle.ibos_kinds.specs.Flows as spec;
+ghost use Rattle.ibos_kinds.specs.Flows.{admitted, bind_answer, close_answer, no_flows, proto_at};
+ghost use Rattle.ibos_kinds.specs.Flows.{with_flow, without_flow};
 
 use arrayvec::ArrayVec;
 use ibos_kinds::{Endpoint, Heading, Proto, Rule};
@@ -20,7 +20,7 @@ pub(crate) struct Flows {
 }
 
 impl Model for Flows {
-    ghost use Rattle.ibos_flow.specs.Flows.{Bound};
+    ghost use Rattle.ibos_kinds.specs.Flows.{Bound};
 
     ghost Value = { Bound };
 

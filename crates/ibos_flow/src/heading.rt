@@ -3,7 +3,7 @@ ghost use Rattle.std.specs.Prelude.{◌≡◌, ◌==◌};
 ghost use Rattle.std.specs.List.{list_all};
 ghost use Rattle.ibos_kinds.specs.Frames.{addr_broken, datagram_broken, datagram_heading};
 ghost use Rattle.ibos_kinds.specs.Frames.{heading_between, mac_broken, tail_broken};
-ghost use Rattle.ibos_flow.specs.Judged.{judged, unless_broken};
+ghost use Rattle.ibos_kinds.specs.Judged.{judged, unless_broken};
 
 use ibos_eth::EthView;
 use ibos_ip::IpView;

@@ -5,8 +5,10 @@ ghost use Rattle.ibos_kinds.specs.declared.names.Instance.{Instance};
 ghost use Rattle.ibos_kinds.specs.Limits.{IsNamed};
 ghost use Rattle.ibos_kinds.specs.Parties.{same};
 ghost use Rattle.ibos_flow.specs.Flows as spec;
-ghost use Rattle.ibos_flow.specs.Flows.{admitted_by, bind_answer, bound_by, checked, close_answer};
-ghost use Rattle.ibos_flow.specs.Flows.{found, no_flows, with_flow, without_flow};
+ghost use Rattle.ibos_kinds.specs.Flows.{admitted_by, bind_answer, close_answer};
+ghost use Rattle.ibos_flow.specs.Flows.{bound_by, checked};
+ghost use Rattle.ibos_kinds.specs.Flows.{no_flows, with_flow, without_flow};
+ghost use Rattle.ibos_flow.specs.Flows.{found};
 
 use crate::flows::Flows;
 use ibos_kinds::{Endpoint, Heading, Instance, Memory, Proto, Rule, instance_of_port};

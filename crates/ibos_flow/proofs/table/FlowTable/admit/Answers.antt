@@ -1,6 +1,6 @@
-use Rattle.std.proofs.Common.{◌≡◌, Some, None, Err, sym, ◌∙◌, ap}
-use Rattle.ibos_kinds.specs.declared.rule.Rule.TheVariants.{F12}
-use Rattle.ibos_flow.specs.Flows.{Bound, Table, bound_by, admitted_by}
+use Rattle.std.proofs.Common.{◌≡◌, Some, sym, ◌∙◌, ap}
+use Rattle.ibos_kinds.specs.Flows.{admitted_by}
+use Rattle.ibos_flow.specs.Flows.{Table, bound_by}
 use Rattle.ibos_flow.proofs.Places.{held, not_held}
 use Rattle.ibos_flow.proofs.table.FlowTable.admit.Goals as goal
 

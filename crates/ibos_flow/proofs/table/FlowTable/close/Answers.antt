@@ -1,8 +1,9 @@
-use Rattle.std.proofs.Common.{◌≡◌, ◌≢◌, ℕ, Option, Some, None, sym, ◌∙◌, ap, subst, arith}
+use Rattle.std.proofs.Common.{◌≡◌, ◌≢◌, Option, Some, None, sym, ◌∙◌, ap, subst}
 use Rattle.std.specs.Prelude.{IfSome}
 use Rattle.std.specs.Option.{option_map}
-use Rattle.ibos_flow.specs.Flows.{Bound, Table, bound_by, without_flow, close_answer}
-use Rattle.ibos_flow.proofs.Places.{IsHeld, held, not_held, named_of, then_ok}
+use Rattle.ibos_kinds.specs.Flows.{Bound, without_flow, close_answer}
+use Rattle.ibos_flow.specs.Flows.{Table, bound_by}
+use Rattle.ibos_flow.proofs.Places.{held, not_held, named_of, then_ok}
 use Rattle.ibos_flow.proofs.table.FlowTable.close.Goals as goal
 
 pub place_of-requires : goal.place_of-requires

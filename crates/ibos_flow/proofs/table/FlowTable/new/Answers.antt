@@ -1,5 +1,5 @@
 use Rattle.std.proofs.Common.{◌≡◌, ◌∙◌, ap, arith, replicate, None}
-use Rattle.ibos_flow.specs.Flows.{Bound, Table, bound_by}
+use Rattle.ibos_flow.specs.Flows.{Table, bound_by}
 use Rattle.ibos_flow.proofs.Places.{bound-nil}
 use Rattle.ibos_flow.proofs.table.FlowTable.new.Goals as goal
 
