@@ -195,5 +195,12 @@ fn write(frame: &[u8], loan: &Loan, mem: &mut Mem)
     ensures { IsWritten mem.old mem.new (address_of loan.now.place) (frame.now
         ++ drop (length frame.now) (buffer_at mem.old loan.now.place)) }
 {
-    mem.bytes_mut(loan)[..frame.len()].copy_from_slice(frame);
+    write_front(mem.bytes_mut(loan), frame);
+}
+
+fn write_front(buffer: &mut [u8], bytes: &[u8])
+    requires { length bytes.now ≤ length buffer.old }
+    ensures { buffer.new ≡ bytes.now ++ drop (length bytes.now) buffer.old }
+{
+    buffer[..bytes.len()].copy_from_slice(bytes);
 }

@@ -1,0 +1,7 @@
+mod Fillings
+mod FrameLists
+mod FreshAreas
+mod PartedHands
+mod TableFrames
+mod TablePlaces
+mod Words
