@@ -50,11 +50,11 @@ front-size frame rest fits size = omega (arith, length-append frame (drop (lengt
 
 module _ (names : Names) (mem mem' : Memory) (b : Inbox) (h : Held) (frame : List ℕ) (hands : AreAtHand names mem b.held) (is : IsInbox b) (room : length b.lens < 16) (read : h ≡ get_or b.held ((b.head + length b.lens) % 16) h)
     (fits : length frame ≤ buffer_bytes) (written : IsWritten mem mem' (address_of h.place) (frame ++ drop (length frame) (buffer_at mem h.place))) where
-  slot : ℕ
+  abbrev slot : ℕ
   slot = (b.head + length b.lens) % 16
 
   at : slice_get b.held slot ≡ Some h
-  at = let held = is.held in read-get b.held slot h (omega arith) read
+  at = let held = is.held in read-get b.held ((b.head + length b.lens) % 16) h (omega arith) read
 
   kept : IsKept mem h.place
   kept = kept_in names mem b.held h.place hands (in_list b.held slot h at)

@@ -1,7 +1,9 @@
 mod Fillings
 mod FrameLists
 mod FreshAreas
+mod Givings
 mod PartedHands
 mod TableFrames
 mod TablePlaces
+mod Takings
 mod Words

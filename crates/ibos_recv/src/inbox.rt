@@ -16,6 +16,7 @@ ghost use Rattle.ibos_recv.specs.Serves.{AreFilled};
 
 use arrayvec::ArrayVec;
 use ibos_kinds::{Memory, Rule};
+use ibos_mediate::{gifts_keep_the_relation, other_names_keep_the_relation};
 use ibos_pool::{Loan, Mem, Name, Pool};
 use std::alloc::Global;
 use std::marker::Model;
@@ -66,6 +67,8 @@ fn take_all(alloc: Global, area: u16, pool: &mut Pool) -> Result<Vec<Loan>, Memo
         → MediatesBut out m mem regs pool.old → MediatesBut out m mem regs pool.new }
     ensures err { OnErr result (pool.new ≡ pool.old) }
 {
+    other_names_keep_the_relation();
+    let _areas = pool.areas();
     let mut loans = Vec::with_capacity(alloc, BUFFERS)?;
     'taken: for index in FIRST_NAME..LAST_NAME {
         match pool.take(Name { area, index }) {
@@ -86,6 +89,7 @@ fn give_all(loans: Vec<Loan>, pool: &mut Pool)
         → AreAtHand pool.old mem loans.items → MediatesBut out m mem regs pool.old
         → MediatesBut out m mem regs pool.new }
 {
+    gifts_keep_the_relation();
     let mut loans = loans;
     'given: while let Some(loan) = loans.pop() {
         pool.give(loan);
