@@ -6,7 +6,7 @@ use Rattle.ibos_pool.proofs.HandLemmas.{hands-given}
 use Rattle.ibos_nic.specs.Registers.{Registers}
 use Rattle.ibos_mediate.specs.Mediated.{Mediated}
 use Rattle.ibos_mediate.specs.Relation.{MediatesBut}
-use Rattle.ibos_recv.proofs.PartedHands.{swapped, rotated}
+use Rattle.ibos_recv.proofs.PartedHands.{back_of, front_of, rotated, swapped}
 use Rattle.ibos_recv.proofs.Words.{AreAtHand, AreHeld, AreReturned, Held, IsClaimed, IsKept, IsLoanOf, Memory, Name, Names, has_name, is_taken, place_of, same_name}
 
 pub has_name-append : (xs ys : List Held) (name : Name) → has_name (xs ++ ys) name ≡ (has_name xs name || has_name ys name)
@@ -69,3 +69,26 @@ giving-loan all left rest h first now is giving =
     let are = giving.held in
     let hands = swapped now are.0 rest (h ∷ []) (subst (AreAtHand now are.0) is are.1) in
     hands.0
+
+-- a list at the end of those that are left is given
+pub giving-many : (all left xs ys : List Held) (first now next : Names) → left ≡ xs ++ ys → IsGiving all left first now → AreReturned ys now next
+    → ((mem : Memory) (more : List Held) → AreAtHand now mem (ys ++ more) → AreAtHand next mem more)
+    → ((m : Mediated) (mem : Memory) (regs : Registers) (out : List Held) → AreAtHand now mem ys → MediatesBut out m mem regs now → MediatesBut out m mem regs next)
+    → IsGiving all xs first next
+giving-many all left xs ys first now next is giving returned gives keeps = record {
+  held = let are = giving.held in (are.0, gives are.0 xs (swapped now are.0 xs ys (subst (AreAtHand now are.0) is are.1)));
+  names = λ name. ap (λ t. cond (has_name xs name) false t) (returned.names name) ∙ given-test (has_name ys name) (has_name xs name) (is_taken now name)
+      ∙ ap (λ b. cond b false (is_taken now name)) (sym (has_name-append xs ys name) ∙ sym (ap (λ zs. has_name zs name) is)) ∙ giving.names name;
+  places = λ name. returned.places name ∙ giving.places name;
+  areas = returned.areas ∙ giving.areas;
+  hands = λ mem more hands. gives mem (xs ++ more) (first_of mem more (giving.hands mem more hands));
+  whole = λ m mem regs out hands mediates.
+      let at = first_of mem [] (giving.hands mem [] (subst (AreAtHand first mem) (sym (append-nil all)) hands)) in
+      keeps m mem regs out (front_of now mem ys (xs ++ []) at) (giving.whole m mem regs out hands mediates);
+}
+  where
+    first_of : (mem : Memory) (more : List Held) → AreAtHand now mem (left ++ more) → AreAtHand now mem (ys ++ (xs ++ more))
+    first_of mem more hands = rotated now mem xs ys more (subst (AreAtHand now mem) (append_assoc xs ys more) (subst (λ zs. AreAtHand now mem (zs ++ more)) is hands))
+
+pub giving-held : (all left xs ys : List Held) (first now : Names) → left ≡ xs ++ ys → IsGiving all left first now → AreHeld now ys
+giving-held all left xs ys first now is giving = let are = giving.held in (are.0, back_of now are.0 xs ys (subst (AreAtHand now are.0) is are.1))

@@ -2,6 +2,7 @@ mod Fillings
 mod FrameLists
 mod FreshAreas
 mod Givings
+mod OpenPlaces
 mod PartedHands
 mod TableFrames
 mod TablePlaces

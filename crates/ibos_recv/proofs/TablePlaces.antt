@@ -2,9 +2,9 @@
 use Rattle.std.proofs.Common.{◌≡◌, ◌≢◌, ℕ, zero, suc, ◌<◌, Bool, true, false, List, [], ◌∷◌, ◌++◌, length, refl, sym, ◌∙◌, ap, subst, arith, get_or, replicate}
 use Rattle.std.specs.Prelude.{Option, Some, None, nat_lt, ◌&&◌, slice_set, if◌then◌else◌}
 use Rattle.std.proofs.lemmas.Bool.Decides.{nat_tests}
-use Rattle.std.proofs.lemmas.List.{append_assoc, get_or-set_same, get_or-set_other, get_or_read, get_or-replicate}
+use Rattle.std.proofs.lemmas.List.{append-nil, append_assoc, get_or-set_same, get_or-set_other, get_or_read, get_or-replicate}
 use Rattle.ibos_recv.proofs.PartedHands.{in_either, in_left, in_right, clash}
-use Rattle.ibos_recv.proofs.Words.{Held, Inbox, Inboxes, Instance, IsNamed, Place, has_inbox_place, has_place, held_at, held_in, inbox_by, inbox_place}
+use Rattle.ibos_recv.proofs.Words.{Held, Inbox, Inboxes, Instance, IsNamed, Place, has_inbox_place, has_place, held_at, held_in, inbox_by, inbox_place, same, unread_at, unread_of}
 
 pub inbox-at : (t : Inboxes) (who : Instance) → IsNamed who → inbox_by t who ≡ get_or t (inbox_place who) None
 unfolding inbox_by
@@ -19,6 +19,21 @@ named_of t who there = by_test (has_inbox_place who) refl
     by_test true is = (grind (arith, nat_tests, is), grind (arith, nat_tests, is))
     by_test false is = absurd (there (grind (arith, nat_tests, is)))
 
+pub same_is : (p q : Instance) → same p q ≡ true → p ≡ q
+same_is p q h =
+    let tab : p.tab ≡ q.tab = grind (arith, nat_tests, h) in
+    let ord : p.ord ≡ q.ord = grind (arith, nat_tests, h) in
+    let F : ℕ → Instance = λ n. record { tab = n; ord = p.ord } in
+    let G : ℕ → Instance = λ n. record { tab = q.tab; ord = n } in
+    ap F tab ∙ ap G ord
+
+pub same_self : (p : Instance) → same p p ≡ true
+same_self p = grind (arith, nat_tests)
+
+-- an instance with an unread frame has an inbox
+pub open_of : (t : Inboxes) (who : Instance) (k : ℕ) → k < unread_of t who → inbox_by t who ≢ None
+open_of t who k below none = let no : unread_of t who ≡ 0 = ap (λ x. unread_at x) none in omega (arith, below, no)
+
 -- no two instances have one place
 same_place : (p q : Instance) → IsNamed p → IsNamed q → inbox_place p ≡ inbox_place q → p ≡ q
 same_place p q below under e =
@@ -27,6 +42,9 @@ same_place p q below under e =
     let F : ℕ → Instance = λ t. record { tab = t; ord = p.ord } in
     let G : ℕ → Instance = λ o. record { tab = q.tab; ord = o } in
     ap F tab ∙ ap G ord
+
+pub place_within : (who : Instance) → IsNamed who → inbox_place who < 2048
+place_within who named = omega (arith, named.0, named.1)
 
 pub inbox-set_same : (t : Inboxes) (who : Instance) (at : ℕ) (x : Option Inbox) → at ≡ inbox_place who → IsNamed who → at < length t → inbox_by (slice_set t at x) who ≡ x
 inbox-set_same t who at x is named within =
@@ -52,7 +70,7 @@ inbox-nil who = by_test (has_inbox_place who) refl
     by_test : (low : Bool) → has_inbox_place who ≡ low → (if low then get_or (replicate 2048 nothing) (inbox_place who) nothing else nothing) ≡ nothing
     by_test true low =
         let named : IsNamed who = (grind (arith, nat_tests, low), grind (arith, nat_tests, low)) in
-        get_or-replicate 2048 (inbox_place who) nothing nothing (omega (arith, named.0, named.1))
+        get_or-replicate 2048 (inbox_place who) nothing nothing (place_within who named)
     by_test false low = refl
 
 -- What a table holds, around one of its places.
@@ -101,3 +119,25 @@ around (x ∷ t) zero below = ([], held_in t, record { was = refl; set = λ y. r
     others zero differ p is = absurd (differ refl)
     others (suc j) differ p is = in_table t j p is
 around (x ∷ t) (suc k) below = around_next x t k (around t k (omega (arith, below)))
+
+-- what another instance's inbox has is elsewhere in the table
+pub inbox-elsewhere : (t : Inboxes) (who q : Instance) (at : ℕ) → at ≡ inbox_place who → IsNamed who → q ≢ who → (p : Place) (rest : List Held)
+    → ((j : ℕ) → j ≢ at → (p : Place) → has_place (held_at (get_or t j None)) p ≡ true → has_place rest p ≡ true) → has_place (held_at (inbox_by t q)) p ≡ true → has_place rest p ≡ true
+unfolding inbox_by
+inbox-elsewhere t who q at is named other p rest others is_in = by_test (has_inbox_place q) refl is_in
+  where
+    by_test : (low : Bool) → has_inbox_place q ≡ low → has_place (held_at (if low then get_or t (inbox_place q) None else None)) p ≡ true → has_place rest p ≡ true
+    by_test true low is_in =
+        let below : IsNamed q = (grind (arith, nat_tests, low), grind (arith, nat_tests, low)) in
+        others (inbox_place q) (λ e. other (same_place q who below named (e ∙ is))) p is_in
+    by_test false high is_in = absurd (clash false is_in refl)
+
+-- what a table of nothing holds
+pub held-nil : (n : ℕ) → held_in (replicate n None) ≡ []
+held-nil zero = refl
+held-nil (suc n) = held-nil n
+
+-- what one place more holds
+pub held-push : (t : Inboxes) (x : Option Inbox) → held_in (t ++ x ∷ []) ≡ held_in t ++ held_at x
+held-push [] x = append-nil (held_at x)
+held-push (y ∷ t) x = ap (λ hs. held_at y ++ hs) (held-push t x) ∙ sym (append_assoc (held_at y) (held_in t) (held_at x))
