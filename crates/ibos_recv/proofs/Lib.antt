@@ -2,6 +2,8 @@ mod Fillings
 mod FrameLists
 mod FreshAreas
 mod Givings
+mod Hearings
+mod Landings
 mod OpenPlaces
 mod PartedHands
 mod TableFrames
