@@ -1,3 +1,5 @@
+mod BellItems
+mod BellSteps
 mod Fillings
 mod FrameLists
 mod FreshAreas

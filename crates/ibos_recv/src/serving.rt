@@ -25,9 +25,13 @@ ghost use Rattle.ibos_recv.specs.Serves.{AreFilled, IsServed, bell_over, landing
 
 use crate::inbox::BUFFERS;
 use crate::inboxes::Inboxes;
+use crate::laws::bells_agree;
 use ibos_flow::{FlowTable, read_in};
 use ibos_kinds::{Bytes, Handle, Instance, Item, Local, Memory, Outcome, Rule};
-use ibos_mediate::Mediator;
+use ibos_mediate::{
+    Mediator, bells_end, frames_are_counted, gifts_keep_the_relation,
+    other_changes_keep_the_frames, other_changes_keep_the_relation, takes_end_a_frame,
+};
 use ibos_pool::{Loan, Mem, Pool};
 use std::alloc::Global;
 
@@ -78,6 +82,13 @@ pub fn serve(
         → AreAtHand pool.new mem.new (held_in inboxes.new ++ more) }
     ensures served { IsServed (held_in inboxes.old) pool.old pool.new mem.old mem.new }
 {
+    other_changes_keep_the_relation();
+    other_changes_keep_the_frames();
+    gifts_keep_the_relation();
+    frames_are_counted();
+    takes_end_a_frame();
+    bells_end();
+    bells_agree();
     'served: while let Some((handle, loan, len)) = med.rx_take(pool, mem) {
         let told = tell(alloc, local, handle, &loan, len, mem, flows, inboxes, out);
         pool.give(loan);

@@ -1,0 +1,292 @@
+use Rattle.std.proofs.Common.{◌≡◌, ◌<◌, ℕ, suc, List, [], ◌∷◌, ◌++◌, length, refl, sym, ◌∙◌, ap, subst, arith}
+use Rattle.ibos_mediate.specs.Frames.{Arrival, after_bell, arrivals}
+use Rattle.ibos_mediate.specs.Relation.{IsAtDevice}
+use Rattle.ibos_flow.specs.Flows.{bound_by}
+use Rattle.ibos_recv.proofs.BellItems.{IsTold, item_of, told-begins, told-frames, told-items, told-step}
+use Rattle.ibos_recv.proofs.BellSteps.{IsServing, IsStep, Laws, State, arrived-step, serving-begins, serving-step, step-of}
+use Rattle.ibos_recv.proofs.Hearings.{frames_for}
+use Rattle.ibos_recv.proofs.TableFrames.{frames-same}
+use Rattle.ibos_recv.proofs.Words.{Receive, address_of, buffer_bytes, bytes_at, frames_of, unread_of}
+use Rattle.ibos_recv.proofs.serving.serve.Goals as goal
+
+pub rx_take-requires-clause-owned : goal.rx_take-requires-clause-owned
+rx_take-requires-clause-owned c = c.served.invariant.serving.owned Receive
+
+pub served-smaller : goal.served-smaller
+served-smaller c =
+    let laws : Laws = record {
+      memory = c.other_changes_keep_the_relation.ensures.memory;
+      device = c.other_changes_keep_the_relation.ensures.device;
+      unheld = c.other_changes_keep_the_relation.ensures.unheld;
+      given_owned = c.gifts_keep_the_relation.ensures.owned;
+      given_unheld = c.gifts_keep_the_relation.ensures.unheld;
+      others = c.bells_end.ensures.others;
+      counted = c.frames_are_counted.ensures.arrivals;
+      completed = c.other_changes_keep_the_frames.ensures.completed;
+      taken_unsent = c.takes_end_a_frame.ensures.receive_unsent;
+      unsent = c.other_changes_keep_the_frames.ensures.unsent;
+      arrivals = c.other_changes_keep_the_frames.ensures.arrivals;
+    } in
+    let first : State = record { med = c.args.med.now; pool = c.args.pool.now; mem = c.args.mem.now; inboxes = c.args.inboxes.now } in
+    let now : State = record { med = c.served.med; pool = c.served.pool; mem = c.served.mem; inboxes = c.served.inboxes } in
+    let next : State = record { med = c.rx_take.new.self; pool = c.give.new.self; mem = c.tell-told.new.mem; inboxes = c.tell-told.new.inboxes } in
+    let a : Arrival = record { handle = c.in-Some.handle; bytes = bytes_at c.rx_take.new.mem (address_of c.in-Some.loan.place) c.in-Some.len } in
+    let taken = c.in-Some.ensures in
+    let step : IsStep c.in-Some.loan a now next c.rx_take.new.mem = step-of first now c.in-Some.loan a c.rx_take.new.self c.rx_take.new.pool c.give.new.self c.rx_take.new.mem c.tell-told.new.mem c.tell-told.new.inboxes
+    taken.taken taken.kept taken.marked taken.arrival taken.bell taken.is_pools taken.hands taken.keeps taken.same_pool c.tell-told.ensures.filled c.tell-told.ensures.open c.tell-told.ensures.held c.give.ensures.claimed in
+    let serving = serving-step laws c.in-Some.loan a first now next c.rx_take.new.mem c.served.invariant.serving step in
+    let arrived = ap (λ (rs : List Arrival). length rs) (arrived-step laws c.in-Some.loan a first now next c.rx_take.new.mem c.served.invariant.serving step) in
+    omega (arith, arrived)
+
+pub served-preserved : goal.served-preserved
+served-preserved c =
+    let laws : Laws = record {
+      memory = c.other_changes_keep_the_relation.ensures.memory;
+      device = c.other_changes_keep_the_relation.ensures.device;
+      unheld = c.other_changes_keep_the_relation.ensures.unheld;
+      given_owned = c.gifts_keep_the_relation.ensures.owned;
+      given_unheld = c.gifts_keep_the_relation.ensures.unheld;
+      others = c.bells_end.ensures.others;
+      counted = c.frames_are_counted.ensures.arrivals;
+      completed = c.other_changes_keep_the_frames.ensures.completed;
+      taken_unsent = c.takes_end_a_frame.ensures.receive_unsent;
+      unsent = c.other_changes_keep_the_frames.ensures.unsent;
+      arrivals = c.other_changes_keep_the_frames.ensures.arrivals;
+    } in
+    let first : State = record { med = c.args.med.now; pool = c.args.pool.now; mem = c.args.mem.now; inboxes = c.args.inboxes.now } in
+    let now : State = record { med = c.served.med; pool = c.served.pool; mem = c.served.mem; inboxes = c.served.inboxes } in
+    let next : State = record { med = c.rx_take.new.self; pool = c.give.new.self; mem = c.tell-told.new.mem; inboxes = c.tell-told.new.inboxes } in
+    let a : Arrival = record { handle = c.in-Some.handle; bytes = bytes_at c.rx_take.new.mem (address_of c.in-Some.loan.place) c.in-Some.len } in
+    let taken = c.in-Some.ensures in
+    let step : IsStep c.in-Some.loan a now next c.rx_take.new.mem = step-of first now c.in-Some.loan a c.rx_take.new.self c.rx_take.new.pool c.give.new.self c.rx_take.new.mem c.tell-told.new.mem c.tell-told.new.inboxes
+    taken.taken taken.kept taken.marked taken.arrival taken.bell taken.is_pools taken.hands taken.keeps taken.same_pool c.tell-told.ensures.filled c.tell-told.ensures.open c.tell-told.ensures.held c.give.ensures.claimed in
+    let serving = serving-step laws c.in-Some.loan a first now next c.rx_take.new.mem c.served.invariant.serving step in
+    let arrived = arrived-step laws c.in-Some.loan a first now next c.rx_take.new.mem c.served.invariant.serving step in
+    let told = c.in_ok-told.ensures in
+    let still = frames-same c.served.mem c.rx_take.new.mem c.served.inboxes (λ p is. taken.marked.bytes (address_of p) buffer_bytes) in
+    record {
+      serving = serving;
+      told = told-step c.args.local.now (bound_by c.args.flows.now) (λ u v same. c.bells_agree.ensures c.args.local.now (bound_by c.args.flows.now) (bound_by c.args.flows.now) u v (λ p. refl) same) first now next c.args.out.now.items c.served.out.items c.tell-told.new.out.items a arrived told.items told.unread
+          (λ p. told.frames p ∙ ap (λ fs. fs ++ frames_for p (item_of c.args.local.now (bound_by c.args.flows.now) (unread_of c.served.inboxes) a ∷ [])) (still p)) c.served.invariant.told;
+      head = told.head ∙ c.served.invariant.head;
+    }
+
+pub returns-in_err-told-clause-done : goal.returns-in_err-told-clause-done
+returns-in_err-told-clause-done c =
+    let laws : Laws = record {
+      memory = c.other_changes_keep_the_relation.ensures.memory;
+      device = c.other_changes_keep_the_relation.ensures.device;
+      unheld = c.other_changes_keep_the_relation.ensures.unheld;
+      given_owned = c.gifts_keep_the_relation.ensures.owned;
+      given_unheld = c.gifts_keep_the_relation.ensures.unheld;
+      others = c.bells_end.ensures.others;
+      counted = c.frames_are_counted.ensures.arrivals;
+      completed = c.other_changes_keep_the_frames.ensures.completed;
+      taken_unsent = c.takes_end_a_frame.ensures.receive_unsent;
+      unsent = c.other_changes_keep_the_frames.ensures.unsent;
+      arrivals = c.other_changes_keep_the_frames.ensures.arrivals;
+    } in
+    let first : State = record { med = c.args.med.now; pool = c.args.pool.now; mem = c.args.mem.now; inboxes = c.args.inboxes.now } in
+    let now : State = record { med = c.served.med; pool = c.served.pool; mem = c.served.mem; inboxes = c.served.inboxes } in
+    let next : State = record { med = c.rx_take.new.self; pool = c.give.new.self; mem = c.tell-told.new.mem; inboxes = c.tell-told.new.inboxes } in
+    let a : Arrival = record { handle = c.in-Some.handle; bytes = bytes_at c.rx_take.new.mem (address_of c.in-Some.loan.place) c.in-Some.len } in
+    let taken = c.in-Some.ensures in
+    let step : IsStep c.in-Some.loan a now next c.rx_take.new.mem = step-of first now c.in-Some.loan a c.rx_take.new.self c.rx_take.new.pool c.give.new.self c.rx_take.new.mem c.tell-told.new.mem c.tell-told.new.inboxes
+    taken.taken taken.kept taken.marked taken.arrival taken.bell taken.is_pools taken.hands taken.keeps taken.same_pool c.tell-told.ensures.filled c.tell-told.ensures.open c.tell-told.ensures.held c.give.ensures.claimed in
+    let serving = serving-step laws c.in-Some.loan a first now next c.rx_take.new.mem c.served.invariant.serving step in
+    serving.done
+
+pub returns-in_err-told-clause-unsent : goal.returns-in_err-told-clause-unsent
+returns-in_err-told-clause-unsent c =
+    let laws : Laws = record {
+      memory = c.other_changes_keep_the_relation.ensures.memory;
+      device = c.other_changes_keep_the_relation.ensures.device;
+      unheld = c.other_changes_keep_the_relation.ensures.unheld;
+      given_owned = c.gifts_keep_the_relation.ensures.owned;
+      given_unheld = c.gifts_keep_the_relation.ensures.unheld;
+      others = c.bells_end.ensures.others;
+      counted = c.frames_are_counted.ensures.arrivals;
+      completed = c.other_changes_keep_the_frames.ensures.completed;
+      taken_unsent = c.takes_end_a_frame.ensures.receive_unsent;
+      unsent = c.other_changes_keep_the_frames.ensures.unsent;
+      arrivals = c.other_changes_keep_the_frames.ensures.arrivals;
+    } in
+    let first : State = record { med = c.args.med.now; pool = c.args.pool.now; mem = c.args.mem.now; inboxes = c.args.inboxes.now } in
+    let now : State = record { med = c.served.med; pool = c.served.pool; mem = c.served.mem; inboxes = c.served.inboxes } in
+    let next : State = record { med = c.rx_take.new.self; pool = c.give.new.self; mem = c.tell-told.new.mem; inboxes = c.tell-told.new.inboxes } in
+    let a : Arrival = record { handle = c.in-Some.handle; bytes = bytes_at c.rx_take.new.mem (address_of c.in-Some.loan.place) c.in-Some.len } in
+    let taken = c.in-Some.ensures in
+    let step : IsStep c.in-Some.loan a now next c.rx_take.new.mem = step-of first now c.in-Some.loan a c.rx_take.new.self c.rx_take.new.pool c.give.new.self c.rx_take.new.mem c.tell-told.new.mem c.tell-told.new.inboxes
+    taken.taken taken.kept taken.marked taken.arrival taken.bell taken.is_pools taken.hands taken.keeps taken.same_pool c.tell-told.ensures.filled c.tell-told.ensures.open c.tell-told.ensures.held c.give.ensures.claimed in
+    let serving = serving-step laws c.in-Some.loan a first now next c.rx_take.new.mem c.served.invariant.serving step in
+    serving.unsent
+
+pub returns-in_err-told-clause-memory : goal.returns-in_err-told-clause-memory
+returns-in_err-told-clause-memory c =
+    let laws : Laws = record {
+      memory = c.other_changes_keep_the_relation.ensures.memory;
+      device = c.other_changes_keep_the_relation.ensures.device;
+      unheld = c.other_changes_keep_the_relation.ensures.unheld;
+      given_owned = c.gifts_keep_the_relation.ensures.owned;
+      given_unheld = c.gifts_keep_the_relation.ensures.unheld;
+      others = c.bells_end.ensures.others;
+      counted = c.frames_are_counted.ensures.arrivals;
+      completed = c.other_changes_keep_the_frames.ensures.completed;
+      taken_unsent = c.takes_end_a_frame.ensures.receive_unsent;
+      unsent = c.other_changes_keep_the_frames.ensures.unsent;
+      arrivals = c.other_changes_keep_the_frames.ensures.arrivals;
+    } in
+    let first : State = record { med = c.args.med.now; pool = c.args.pool.now; mem = c.args.mem.now; inboxes = c.args.inboxes.now } in
+    let now : State = record { med = c.served.med; pool = c.served.pool; mem = c.served.mem; inboxes = c.served.inboxes } in
+    let next : State = record { med = c.rx_take.new.self; pool = c.give.new.self; mem = c.tell-told.new.mem; inboxes = c.tell-told.new.inboxes } in
+    let a : Arrival = record { handle = c.in-Some.handle; bytes = bytes_at c.rx_take.new.mem (address_of c.in-Some.loan.place) c.in-Some.len } in
+    let taken = c.in-Some.ensures in
+    let step : IsStep c.in-Some.loan a now next c.rx_take.new.mem = step-of first now c.in-Some.loan a c.rx_take.new.self c.rx_take.new.pool c.give.new.self c.rx_take.new.mem c.tell-told.new.mem c.tell-told.new.inboxes
+    taken.taken taken.kept taken.marked taken.arrival taken.bell taken.is_pools taken.hands taken.keeps taken.same_pool c.tell-told.ensures.filled c.tell-told.ensures.open c.tell-told.ensures.held c.give.ensures.claimed in
+    let serving = serving-step laws c.in-Some.loan a first now next c.rx_take.new.mem c.served.invariant.serving step in
+    serving.memory
+
+pub returns-in_err-told-clause-device : goal.returns-in_err-told-clause-device
+returns-in_err-told-clause-device c =
+    let laws : Laws = record {
+      memory = c.other_changes_keep_the_relation.ensures.memory;
+      device = c.other_changes_keep_the_relation.ensures.device;
+      unheld = c.other_changes_keep_the_relation.ensures.unheld;
+      given_owned = c.gifts_keep_the_relation.ensures.owned;
+      given_unheld = c.gifts_keep_the_relation.ensures.unheld;
+      others = c.bells_end.ensures.others;
+      counted = c.frames_are_counted.ensures.arrivals;
+      completed = c.other_changes_keep_the_frames.ensures.completed;
+      taken_unsent = c.takes_end_a_frame.ensures.receive_unsent;
+      unsent = c.other_changes_keep_the_frames.ensures.unsent;
+      arrivals = c.other_changes_keep_the_frames.ensures.arrivals;
+    } in
+    let first : State = record { med = c.args.med.now; pool = c.args.pool.now; mem = c.args.mem.now; inboxes = c.args.inboxes.now } in
+    let now : State = record { med = c.served.med; pool = c.served.pool; mem = c.served.mem; inboxes = c.served.inboxes } in
+    let next : State = record { med = c.rx_take.new.self; pool = c.give.new.self; mem = c.tell-told.new.mem; inboxes = c.tell-told.new.inboxes } in
+    let a : Arrival = record { handle = c.in-Some.handle; bytes = bytes_at c.rx_take.new.mem (address_of c.in-Some.loan.place) c.in-Some.len } in
+    let taken = c.in-Some.ensures in
+    let step : IsStep c.in-Some.loan a now next c.rx_take.new.mem = step-of first now c.in-Some.loan a c.rx_take.new.self c.rx_take.new.pool c.give.new.self c.rx_take.new.mem c.tell-told.new.mem c.tell-told.new.inboxes
+    taken.taken taken.kept taken.marked taken.arrival taken.bell taken.is_pools taken.hands taken.keeps taken.same_pool c.tell-told.ensures.filled c.tell-told.ensures.open c.tell-told.ensures.held c.give.ensures.claimed in
+    let serving = serving-step laws c.in-Some.loan a first now next c.rx_take.new.mem c.served.invariant.serving step in
+    serving.device
+
+pub returns-in_err-told-clause-owned : goal.returns-in_err-told-clause-owned
+returns-in_err-told-clause-owned c =
+    let laws : Laws = record {
+      memory = c.other_changes_keep_the_relation.ensures.memory;
+      device = c.other_changes_keep_the_relation.ensures.device;
+      unheld = c.other_changes_keep_the_relation.ensures.unheld;
+      given_owned = c.gifts_keep_the_relation.ensures.owned;
+      given_unheld = c.gifts_keep_the_relation.ensures.unheld;
+      others = c.bells_end.ensures.others;
+      counted = c.frames_are_counted.ensures.arrivals;
+      completed = c.other_changes_keep_the_frames.ensures.completed;
+      taken_unsent = c.takes_end_a_frame.ensures.receive_unsent;
+      unsent = c.other_changes_keep_the_frames.ensures.unsent;
+      arrivals = c.other_changes_keep_the_frames.ensures.arrivals;
+    } in
+    let first : State = record { med = c.args.med.now; pool = c.args.pool.now; mem = c.args.mem.now; inboxes = c.args.inboxes.now } in
+    let now : State = record { med = c.served.med; pool = c.served.pool; mem = c.served.mem; inboxes = c.served.inboxes } in
+    let next : State = record { med = c.rx_take.new.self; pool = c.give.new.self; mem = c.tell-told.new.mem; inboxes = c.tell-told.new.inboxes } in
+    let a : Arrival = record { handle = c.in-Some.handle; bytes = bytes_at c.rx_take.new.mem (address_of c.in-Some.loan.place) c.in-Some.len } in
+    let taken = c.in-Some.ensures in
+    let step : IsStep c.in-Some.loan a now next c.rx_take.new.mem = step-of first now c.in-Some.loan a c.rx_take.new.self c.rx_take.new.pool c.give.new.self c.rx_take.new.mem c.tell-told.new.mem c.tell-told.new.inboxes
+    taken.taken taken.kept taken.marked taken.arrival taken.bell taken.is_pools taken.hands taken.keeps taken.same_pool c.tell-told.ensures.filled c.tell-told.ensures.open c.tell-told.ensures.held c.give.ensures.claimed in
+    let serving = serving-step laws c.in-Some.loan a first now next c.rx_take.new.mem c.served.invariant.serving step in
+    serving.owned
+
+pub returns-in_err-told-clause-unheld : goal.returns-in_err-told-clause-unheld
+returns-in_err-told-clause-unheld c =
+    let laws : Laws = record {
+      memory = c.other_changes_keep_the_relation.ensures.memory;
+      device = c.other_changes_keep_the_relation.ensures.device;
+      unheld = c.other_changes_keep_the_relation.ensures.unheld;
+      given_owned = c.gifts_keep_the_relation.ensures.owned;
+      given_unheld = c.gifts_keep_the_relation.ensures.unheld;
+      others = c.bells_end.ensures.others;
+      counted = c.frames_are_counted.ensures.arrivals;
+      completed = c.other_changes_keep_the_frames.ensures.completed;
+      taken_unsent = c.takes_end_a_frame.ensures.receive_unsent;
+      unsent = c.other_changes_keep_the_frames.ensures.unsent;
+      arrivals = c.other_changes_keep_the_frames.ensures.arrivals;
+    } in
+    let first : State = record { med = c.args.med.now; pool = c.args.pool.now; mem = c.args.mem.now; inboxes = c.args.inboxes.now } in
+    let now : State = record { med = c.served.med; pool = c.served.pool; mem = c.served.mem; inboxes = c.served.inboxes } in
+    let next : State = record { med = c.rx_take.new.self; pool = c.give.new.self; mem = c.tell-told.new.mem; inboxes = c.tell-told.new.inboxes } in
+    let a : Arrival = record { handle = c.in-Some.handle; bytes = bytes_at c.rx_take.new.mem (address_of c.in-Some.loan.place) c.in-Some.len } in
+    let taken = c.in-Some.ensures in
+    let step : IsStep c.in-Some.loan a now next c.rx_take.new.mem = step-of first now c.in-Some.loan a c.rx_take.new.self c.rx_take.new.pool c.give.new.self c.rx_take.new.mem c.tell-told.new.mem c.tell-told.new.inboxes
+    taken.taken taken.kept taken.marked taken.arrival taken.bell taken.is_pools taken.hands taken.keeps taken.same_pool c.tell-told.ensures.filled c.tell-told.ensures.open c.tell-told.ensures.held c.give.ensures.claimed in
+    let serving = serving-step laws c.in-Some.loan a first now next c.rx_take.new.mem c.served.invariant.serving step in
+    serving.unheld
+
+pub returns-in_err-told-clause-hands : goal.returns-in_err-told-clause-hands
+returns-in_err-told-clause-hands c =
+    let laws : Laws = record {
+      memory = c.other_changes_keep_the_relation.ensures.memory;
+      device = c.other_changes_keep_the_relation.ensures.device;
+      unheld = c.other_changes_keep_the_relation.ensures.unheld;
+      given_owned = c.gifts_keep_the_relation.ensures.owned;
+      given_unheld = c.gifts_keep_the_relation.ensures.unheld;
+      others = c.bells_end.ensures.others;
+      counted = c.frames_are_counted.ensures.arrivals;
+      completed = c.other_changes_keep_the_frames.ensures.completed;
+      taken_unsent = c.takes_end_a_frame.ensures.receive_unsent;
+      unsent = c.other_changes_keep_the_frames.ensures.unsent;
+      arrivals = c.other_changes_keep_the_frames.ensures.arrivals;
+    } in
+    let first : State = record { med = c.args.med.now; pool = c.args.pool.now; mem = c.args.mem.now; inboxes = c.args.inboxes.now } in
+    let now : State = record { med = c.served.med; pool = c.served.pool; mem = c.served.mem; inboxes = c.served.inboxes } in
+    let next : State = record { med = c.rx_take.new.self; pool = c.give.new.self; mem = c.tell-told.new.mem; inboxes = c.tell-told.new.inboxes } in
+    let a : Arrival = record { handle = c.in-Some.handle; bytes = bytes_at c.rx_take.new.mem (address_of c.in-Some.loan.place) c.in-Some.len } in
+    let taken = c.in-Some.ensures in
+    let step : IsStep c.in-Some.loan a now next c.rx_take.new.mem = step-of first now c.in-Some.loan a c.rx_take.new.self c.rx_take.new.pool c.give.new.self c.rx_take.new.mem c.tell-told.new.mem c.tell-told.new.inboxes
+    taken.taken taken.kept taken.marked taken.arrival taken.bell taken.is_pools taken.hands taken.keeps taken.same_pool c.tell-told.ensures.filled c.tell-told.ensures.open c.tell-told.ensures.held c.give.ensures.claimed in
+    let serving = serving-step laws c.in-Some.loan a first now next c.rx_take.new.mem c.served.invariant.serving step in
+    serving.hands
+
+pub returns-in_err-told-clause-served : goal.returns-in_err-told-clause-served
+returns-in_err-told-clause-served c =
+    let laws : Laws = record {
+      memory = c.other_changes_keep_the_relation.ensures.memory;
+      device = c.other_changes_keep_the_relation.ensures.device;
+      unheld = c.other_changes_keep_the_relation.ensures.unheld;
+      given_owned = c.gifts_keep_the_relation.ensures.owned;
+      given_unheld = c.gifts_keep_the_relation.ensures.unheld;
+      others = c.bells_end.ensures.others;
+      counted = c.frames_are_counted.ensures.arrivals;
+      completed = c.other_changes_keep_the_frames.ensures.completed;
+      taken_unsent = c.takes_end_a_frame.ensures.receive_unsent;
+      unsent = c.other_changes_keep_the_frames.ensures.unsent;
+      arrivals = c.other_changes_keep_the_frames.ensures.arrivals;
+    } in
+    let first : State = record { med = c.args.med.now; pool = c.args.pool.now; mem = c.args.mem.now; inboxes = c.args.inboxes.now } in
+    let now : State = record { med = c.served.med; pool = c.served.pool; mem = c.served.mem; inboxes = c.served.inboxes } in
+    let next : State = record { med = c.rx_take.new.self; pool = c.give.new.self; mem = c.tell-told.new.mem; inboxes = c.tell-told.new.inboxes } in
+    let a : Arrival = record { handle = c.in-Some.handle; bytes = bytes_at c.rx_take.new.mem (address_of c.in-Some.loan.place) c.in-Some.len } in
+    let taken = c.in-Some.ensures in
+    let step : IsStep c.in-Some.loan a now next c.rx_take.new.mem = step-of first now c.in-Some.loan a c.rx_take.new.self c.rx_take.new.pool c.give.new.self c.rx_take.new.mem c.tell-told.new.mem c.tell-told.new.inboxes
+    taken.taken taken.kept taken.marked taken.arrival taken.bell taken.is_pools taken.hands taken.keeps taken.same_pool c.tell-told.ensures.filled c.tell-told.ensures.open c.tell-told.ensures.held c.give.ensures.claimed in
+    let serving = serving-step laws c.in-Some.loan a first now next c.rx_take.new.mem c.served.invariant.serving step in
+    serving.served
+
+pub returns-clause-items : goal.returns-clause-items
+returns-clause-items c =
+    let first : State = record { med = c.args.med.now; pool = c.args.pool.now; mem = c.args.mem.now; inboxes = c.args.inboxes.now } in
+    let now : State = record { med = c.served.med; pool = c.served.pool; mem = c.served.mem; inboxes = c.served.inboxes } in
+    let none = c.bells_end.ensures.arrivals c.served.mem c.served.med (c.in_default.ensures.none.0 refl) in
+    told-items c.args.local.now (bound_by c.args.flows.now) first now c.args.out.now.items c.served.out.items none c.served.invariant.told
+
+pub returns-clause-frames : goal.returns-clause-frames
+returns-clause-frames c p =
+    let first : State = record { med = c.args.med.now; pool = c.args.pool.now; mem = c.args.mem.now; inboxes = c.args.inboxes.now } in
+    let now : State = record { med = c.served.med; pool = c.served.pool; mem = c.served.mem; inboxes = c.served.inboxes } in
+    let none = c.bells_end.ensures.arrivals c.served.mem c.served.med (c.in_default.ensures.none.0 refl) in
+    rw c.in_default.ensures.same_memory (told-frames c.args.local.now (bound_by c.args.flows.now) first now c.args.out.now.items c.served.out.items none c.served.invariant.told p)
+
+pub returns-clause-bell : goal.returns-clause-bell
+returns-clause-bell c = c.in_default.ensures.same ∙ sym (c.bells_end.ensures.ends Receive c.served.mem c.served.med (c.in_default.ensures.none.0 refl)) ∙ c.served.invariant.serving.bell
+
+pub returns-clause-device : goal.returns-clause-device
+returns-clause-device c regs is = rw (c.in_default.ensures.same, c.in_default.ensures.same_memory) (c.served.invariant.serving.device regs is)
