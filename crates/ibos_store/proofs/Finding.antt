@@ -1,0 +1,87 @@
+-- Objects found by key, and origins found by their texts.
+use Rattle.std.proofs.Common.{◌≡◌, ℕ, List, [], ◌∷◌, Bool, true, false, refl, sym, ◌∙◌, ap, subst, Option, Some, None}
+use Rattle.std.specs.Prelude.{bytes_eq, cond, if◌then◌else◌}
+use Rattle.std.specs.Global.{Vec}
+use Rattle.std.specs.Map.{lookup, set_value}
+use Rattle.std.specs.Option.{unwrap_or}
+use Rattle.indexmap.specs.IndexMap.{insert_entry}
+use Rattle.ibos_store.specs.Objects.{Newest, KeyObject, newest_in, with_newest}
+use Rattle.ibos_store.specs.Stores.{OriginObjects, objects_in, PutsObjects, key_objects, origin_objects}
+use Rattle.ibos_store.proofs.Sums.{same_texts}
+
+-- ---- keys
+
+-- what stands under a key is what the key finds
+pub newest_in-lookup : (key : List ℕ) (entries : List (Vec ℕ × Newest)) → newest_in (key_objects entries) key ≡ lookup (λ k. bytes_eq key k.items) entries
+newest_in-lookup key [] = refl
+newest_in-lookup key (e ∷ es) = ap (λ (r : Option Newest). cond (bytes_eq key e.0.items) (Some e.1) r) (newest_in-lookup key es)
+
+pub newest_found : (key : List ℕ) (entries : List (Vec ℕ × Newest)) (objects : List KeyObject) (found : Option Newest) → found ≡ lookup (λ k. bytes_eq key k.items) entries
+    → key_objects entries ≡ objects → newest_in objects key ≡ found
+newest_found key entries objects found is seen =
+    sym (ap (λ (os : List KeyObject). newest_in os key) seen) ∙ newest_in-lookup key entries ∙ sym is
+
+-- a newest version that is written where the key was found
+with-set_value : (key : List ℕ) (newest held : Newest) (entries : List (Vec ℕ × Newest)) → lookup (λ k. bytes_eq key k.items) entries ≡ Some held
+    → key_objects (set_value (λ k. bytes_eq key k.items) entries newest) ≡ with_newest key newest (key_objects entries)
+with-set_value key newest held [] found = cc
+with-set_value key newest held (e ∷ es) found = by_test (bytes_eq key e.0.items) refl (with-set_value key newest held es)
+  where
+    by_test : (here : Bool) → bytes_eq key e.0.items ≡ here
+        → (lookup (λ (k : Vec ℕ). bytes_eq key k.items) es ≡ Some held → key_objects (set_value (λ k. bytes_eq key k.items) es newest) ≡ with_newest key newest (key_objects es))
+        → key_objects (set_value (λ k. bytes_eq key k.items) (e ∷ es) newest) ≡ with_newest key newest (key_objects (e ∷ es))
+    by_test true is rest = rw is (ap (λ (k : List ℕ). record { key = k; newest = newest } ∷ key_objects es) (sym (same_texts key e.0.items is)))
+    by_test false is rest = rw is (ap (λ (os : List KeyObject). record { key = e.0.items; newest = e.1 } ∷ os) (rest (rw is at found)))
+
+with-insert_entry : (key : Vec ℕ) (newest : Newest) (entries : List (Vec ℕ × Newest))
+    → key_objects (insert_entry (λ (a b : Vec ℕ). bytes_eq a.items b.items) entries key newest) ≡ with_newest key.items newest (key_objects entries)
+with-insert_entry key newest [] = refl
+with-insert_entry key newest (e ∷ es) = by_test (bytes_eq key.items e.0.items) refl (with-insert_entry key newest es)
+  where
+    by_test : (here : Bool) → bytes_eq key.items e.0.items ≡ here
+        → key_objects (insert_entry (λ (a b : Vec ℕ). bytes_eq a.items b.items) es key newest) ≡ with_newest key.items newest (key_objects es)
+        → key_objects (insert_entry (λ (a b : Vec ℕ). bytes_eq a.items b.items) (e ∷ es) key newest) ≡ with_newest key.items newest (key_objects (e ∷ es))
+    by_test true is rest = rw is (ap (λ (k : List ℕ). record { key = k; newest = newest } ∷ key_objects es) (sym (same_texts key.items e.0.items is)))
+    by_test false is rest = rw is (ap (λ (os : List KeyObject). record { key = e.0.items; newest = e.1 } ∷ os) rest)
+
+-- the same of the objects as they are seen
+pub objects_set : (key : List ℕ) (newest held : Newest) (entries after : List (Vec ℕ × Newest)) (objects : List KeyObject) → Some held ≡ lookup (λ k. bytes_eq key k.items) entries
+    → after ≡ set_value (λ k. bytes_eq key k.items) entries newest → key_objects entries ≡ objects → key_objects after ≡ with_newest key newest objects
+objects_set key newest held entries after objects found written seen =
+    ap key_objects written ∙ with-set_value key newest held entries (sym found) ∙ ap (with_newest key newest) seen
+
+pub objects_inserted : (key : List ℕ) (newest : Newest) (name : Vec ℕ) (base entries after : List (Vec ℕ × Newest)) (objects : List KeyObject) → base ≡ entries
+    → after ≡ insert_entry (λ (a b : Vec ℕ). bytes_eq a.items b.items) base name newest → name.items ≡ key → key_objects entries ≡ objects → key_objects after ≡ with_newest key newest objects
+objects_inserted key newest name base entries after objects same written named seen =
+    ap key_objects written ∙ with-insert_entry name newest base ∙ ap (λ (k : List ℕ). with_newest k newest (key_objects base)) named
+    ∙ ap (λ (es : List (Vec ℕ × Newest)). with_newest key newest (key_objects es)) same ∙ ap (with_newest key newest) seen
+
+-- ---- origins
+
+-- the objects of an origin are what its text finds, or none
+pub objects_in-lookup : (origin : List ℕ) (entries : List (Vec ℕ × List KeyObject)) → objects_in (origin_objects entries) origin ≡ unwrap_or (lookup (λ k. bytes_eq origin k.items) entries) []
+objects_in-lookup origin [] = refl
+objects_in-lookup origin (e ∷ es) = by_test (bytes_eq origin e.0.items) (objects_in-lookup origin es)
+  where
+    by_test : (here : Bool) → objects_in (origin_objects es) origin ≡ unwrap_or (lookup (λ k. bytes_eq origin k.items) es) []
+        → (if here then e.1 else objects_in (origin_objects es) origin) ≡ unwrap_or (cond here (Some e.1) (lookup (λ k. bytes_eq origin k.items) es)) []
+    by_test true rest = refl
+    by_test false rest = rest
+
+pub objects_found : (origin : List ℕ) (entries : List (Vec ℕ × List KeyObject)) (origins : List OriginObjects) (found : Option (List KeyObject)) → found ≡ lookup (λ k. bytes_eq origin k.items) entries
+    → origin_objects entries ≡ origins → objects_in origins origin ≡ unwrap_or found []
+objects_found origin entries origins found is seen =
+    sym (ap (λ (os : List OriginObjects). objects_in os origin) seen) ∙ objects_in-lookup origin entries ∙ sym (ap (λ (r : Option (List KeyObject)). unwrap_or r []) is)
+
+apart : (origin first other : List ℕ) → bytes_eq origin first ≡ false → bytes_eq other first ≡ true → bytes_eq origin other ≡ false
+apart origin first other differs same = let P : List ℕ → Type 0 = λ t. bytes_eq origin t ≡ false in subst P (sym (same_texts other first same)) differs
+
+at_own : (a b : Bool) (now old before : List KeyObject) → a ≡ b → (if a then now else before) ≡ (if b then now else if a then old else before)
+at_own true true now old before same = refl
+at_own false false now old before same = refl
+at_own true false now old before same = cc
+at_own false true now old before same = cc
+
+at_other : (a b : Bool) (now old after before : List KeyObject) → (a ≡ true → b ≡ false) → after ≡ (if b then now else before) → (if a then old else after) ≡ (if b then now else if a then old else before)
+at_other true b now old after before apart h = rw (apart refl) refl
+at_other false b now old after before apart h = h

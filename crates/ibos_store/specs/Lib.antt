@@ -1,0 +1,4 @@
+pub mod Objects
+pub mod Requests
+pub mod Answers
+pub mod Stores
