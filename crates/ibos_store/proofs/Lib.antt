@@ -1,3 +1,4 @@
 pub mod Sums
 pub mod Finding
+pub mod Putting
 pub mod Places

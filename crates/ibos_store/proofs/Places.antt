@@ -1,12 +1,12 @@
 -- Where the requests of instances stand.
-use Rattle.std.proofs.Common.{◌≡◌, ◌≢◌, ℕ, ◌<◌, ◌≤◌, Bool, true, false, List, [], length, Option, None, refl, sym, ◌∙◌, ap, arith, get_or}
-use Rattle.std.specs.Prelude.{nat_lt, slice_set, if◌then◌else◌}
+use Rattle.std.proofs.Common.{◌≡◌, ◌≢◌, ℕ, ◌<◌, ◌≤◌, Bool, true, false, List, [], length, Option, None, refl, sym, ◌∙◌, ap, subst, arith, get_or, Result, Ok, Err}
+use Rattle.std.specs.Prelude.{OnOk, nat_lt, slice_set, option_and_then, if◌then◌else◌}
 use Rattle.std.proofs.lemmas.Bool.Decides.{nat_tests}
 use Rattle.std.proofs.lemmas.List.{get_or-set_same, get_or-set_other, get_or_read}
 use Rattle.std.proofs.Math.ListN.{get_or-eq_default}
 use Rattle.ibos_kinds.specs.declared.names.Instance.{Instance}
-use Rattle.ibos_store.specs.Requests.{Requests}
-use Rattle.ibos_store.specs.Stores.{place_of, requests_in}
+use Rattle.ibos_store.specs.Requests.{Requests, key_in}
+use Rattle.ibos_store.specs.Stores.{place_of, requests_in, key_at}
 
 -- what stands at an instance's place
 pub requests-at : (places : List (Option Requests)) (who : Instance) → who.tab < 256 → requests_in places who ≡ get_or places (place_of who) None
@@ -82,3 +82,22 @@ held places who at x is tab within read = record {
   own = λ y. requests-set_same places who at y is tab within;
   others = λ y q other. requests-set_other places who q at y is tab other;
 }
+
+-- an instance that was begun has its requests at its place
+pub held_by : (places seen : List (Option Requests)) (who : Instance) (at : ℕ) (x : Option Requests) → places ≡ seen → requests_in seen who ≢ None → at ≡ place_of who → who.tab < 256
+    → x ≡ get_or places at x → IsHeld places who at x
+held_by places seen who at x view there is tab read =
+    let P : List (Option Requests) → Type 0 = λ t. requests_in t who ≢ None in
+    held places who at x is tab (requests_within places who at is tab (subst P (sym view) there)) read
+
+-- a fact that holds after Ok gives another
+pub then_ok : {A E : Type 0} (r : Result A E) {P Q : Type 0} → (P → Q) → OnOk r P → OnOk r Q
+then_ok (Ok x) f p = f p
+then_ok (Err e) f p = tt
+
+-- the key of a request by what stands at its instance's place
+pub key_found : (places seen : List (Option Requests)) (who : Instance) (at number : ℕ) (found : Option Requests) → places ≡ seen → at ≡ place_of who → who.tab < 256
+    → found ≡ get_or places at None → option_and_then (λ requests. key_in requests number) found ≡ key_at seen who number
+key_found places seen who at number found view is tab read =
+    let there : found ≡ requests_in seen who = read ∙ ap (λ k. get_or places k None) is ∙ sym (requests-at places who tab) ∙ ap (λ (t : List (Option Requests)). requests_in t who) view in
+    ap (λ (x : Option Requests). option_and_then (λ requests. key_in requests number) x) there

@@ -99,10 +99,10 @@ impl Objects {
         ensures ok { OnOk result (self.new ≡ with_loss key.now self.old) }
         ensures err { OnErr result (self.new ≡ self.old) }
     {
-        match self.objects.get_mut(key) {
-            Some(object) => object.lose(version),
-            None => Err(Rule::S9),
-        }
+        let Some(object) = self.objects.get_mut(key) else {
+            return Err(Rule::S9);
+        };
+        object.lose(version)
     }
 }
 

@@ -236,9 +236,9 @@ impl Store {
         ensures requests { self.new.requests ≡ self.old.requests }
         ensures err { OnErr result (self.new ≡ self.old) }
     {
-        match self.origins.get_mut(origin) {
-            Some(objects) => objects.lose(key, version),
-            None => Err(Rule::S9),
-        }
+        let Some(objects) = self.origins.get_mut(origin) else {
+            return Err(Rule::S9);
+        };
+        objects.lose(key, version)
     }
 }

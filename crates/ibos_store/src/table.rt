@@ -86,9 +86,9 @@ impl RequestTable {
     pub(crate) fn key(&self, who: Instance, number: u32) -> Option<&[u8]>
         ensures { option_copied result ≡ key_at self.now who number }
     {
-        match self.places.get(place_of(who)) {
-            Some(Some(requests)) => requests.key(number),
-            _ => None,
+        match requests_at(&self.places, place_of(who)) {
+            Some(requests) => requests.key(number),
+            None => None,
         }
     }
 
@@ -113,6 +113,17 @@ fn place_of(who: Instance) -> usize
     ensures bound { result < 65536 }
 {
     256 * who.ord as usize + who.tab as usize
+}
+
+// What stands at a place, if the table is that long.
+fn requests_at(places: &[Option<Requests>], place: usize) -> Option<&Requests>
+    ensures { option_copied result ≡ slice_index_or places.now place None }
+{
+    if place < places.len() {
+        places[place].as_ref()
+    } else {
+        None
+    }
 }
 
 // Makes the table long enough for a place.
