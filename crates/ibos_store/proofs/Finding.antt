@@ -4,6 +4,8 @@ use Rattle.std.specs.Prelude.{bytes_eq, cond, if◌then◌else◌}
 use Rattle.std.specs.Global.{Vec}
 use Rattle.std.specs.Map.{lookup, set_value}
 use Rattle.std.specs.Option.{unwrap_or}
+use Rattle.std.specs.Cmp.Lexicographic.{nat_list_eq_equiv}
+use Rattle.std.proofs.lemmas.Map.Steps.{set_value_same}
 use Rattle.indexmap.specs.IndexMap.{insert_entry}
 use Rattle.ibos_store.specs.Objects.{Newest, KeyObject, newest_in, with_newest}
 use Rattle.ibos_store.specs.Stores.{OriginObjects, objects_in, PutsObjects, key_objects, origin_objects}
@@ -85,3 +87,55 @@ at_own false true now old before same = cc
 at_other : (a b : Bool) (now old after before : List KeyObject) → (a ≡ true → b ≡ false) → after ≡ (if b then now else before) → (if a then old else after) ≡ (if b then now else if a then old else before)
 at_other true b now old after before apart h = rw (apart refl) refl
 at_other false b now old after before apart h = h
+
+-- objects written where the origin has some
+puts-set_value : (origin : List ℕ) (old now : List KeyObject) (entries : List (Vec ℕ × List KeyObject)) → lookup (λ k. bytes_eq origin k.items) entries ≡ Some old
+    → PutsObjects (origin_objects entries) (origin_objects (set_value (λ k. bytes_eq origin k.items) entries now)) origin now
+puts-set_value origin old now [] found other = cc
+puts-set_value origin old now (e ∷ es) found other = by_test (bytes_eq origin e.0.items) refl (puts-set_value origin old now es)
+  where
+    by_test : (here : Bool) → bytes_eq origin e.0.items ≡ here
+        → (lookup (λ (k : Vec ℕ). bytes_eq origin k.items) es ≡ Some old → PutsObjects (origin_objects es) (origin_objects (set_value (λ k. bytes_eq origin k.items) es now)) origin now)
+        → objects_in (origin_objects (set_value (λ k. bytes_eq origin k.items) (e ∷ es) now)) other ≡ (if bytes_eq origin other then now else objects_in (origin_objects (e ∷ es)) other)
+    by_test true is rest = rw is (at_own (bytes_eq other e.0.items) (bytes_eq origin other) now e.1 (objects_in (origin_objects es) other) (ap (λ t. bytes_eq other t) (sym (same_texts origin e.0.items is)) ∙ nat_list_eq_equiv.symm other origin))
+    by_test false is rest = rw is (at_other (bytes_eq other e.0.items) (bytes_eq origin other) now e.1 _ (objects_in (origin_objects es) other) (apart origin e.0.items other is) (rest (rw is at found) other))
+
+-- an insertion gives the origin its objects
+puts-insert_entry : (origin : Vec ℕ) (now : List KeyObject) (entries : List (Vec ℕ × List KeyObject))
+    → PutsObjects (origin_objects entries) (origin_objects (insert_entry (λ (a b : Vec ℕ). bytes_eq a.items b.items) entries origin now)) origin.items now
+puts-insert_entry origin now [] other = ap (λ (b : Bool). if b then now else []) (nat_list_eq_equiv.symm other origin.items)
+puts-insert_entry origin now (e ∷ es) other = by_test (bytes_eq origin.items e.0.items) refl (puts-insert_entry origin now es other)
+  where
+    by_test : (here : Bool) → bytes_eq origin.items e.0.items ≡ here
+        → objects_in (origin_objects (insert_entry (λ (a b : Vec ℕ). bytes_eq a.items b.items) es origin now)) other ≡ (if bytes_eq origin.items other then now else objects_in (origin_objects es) other)
+        → objects_in (origin_objects (insert_entry (λ (a b : Vec ℕ). bytes_eq a.items b.items) (e ∷ es) origin now)) other ≡ (if bytes_eq origin.items other then now else objects_in (origin_objects (e ∷ es)) other)
+    by_test true is rest = rw is (at_own (bytes_eq other e.0.items) (bytes_eq origin.items other) now e.1 (objects_in (origin_objects es) other) (ap (λ t. bytes_eq other t) (sym (same_texts origin.items e.0.items is)) ∙ nat_list_eq_equiv.symm other origin.items))
+    by_test false is rest = rw is (at_other (bytes_eq other e.0.items) (bytes_eq origin.items other) now e.1 _ (objects_in (origin_objects es) other) (apart origin.items e.0.items other is) rest)
+
+-- the same of the origins as they are seen
+pub puts_set : (origin : List ℕ) (old now : List KeyObject) (entries after : List (Vec ℕ × List KeyObject)) (origins : List OriginObjects) → Some old ≡ lookup (λ k. bytes_eq origin k.items) entries
+    → after ≡ set_value (λ k. bytes_eq origin k.items) entries now → origin_objects entries ≡ origins → PutsObjects origins (origin_objects after) origin now
+puts_set origin old now entries after origins found written seen other =
+    ap (λ (es : List (Vec ℕ × List KeyObject)). objects_in (origin_objects es) other) written ∙ puts-set_value origin old now entries (sym found) other
+    ∙ ap (λ (os : List OriginObjects). if bytes_eq origin other then now else objects_in os other) seen
+
+pub puts_inserted : (origin : List ℕ) (now : List KeyObject) (name : Vec ℕ) (entries after : List (Vec ℕ × List KeyObject)) (origins : List OriginObjects)
+    → after ≡ insert_entry (λ (a b : Vec ℕ). bytes_eq a.items b.items) entries name now → name.items ≡ origin → origin_objects entries ≡ origins → PutsObjects origins (origin_objects after) origin now
+puts_inserted origin now name entries after origins written named seen other =
+    ap (λ (es : List (Vec ℕ × List KeyObject)). objects_in (origin_objects es) other) written ∙ puts-insert_entry name now entries other
+    ∙ ap (λ t. if bytes_eq t other then now else objects_in (origin_objects entries) other) named
+    ∙ ap (λ (os : List OriginObjects). if bytes_eq origin other then now else objects_in os other) seen
+
+-- objects that are put back where they stand change nothing
+pub same_origins : (origin : List ℕ) (old now : List KeyObject) (entries after : List (Vec ℕ × List KeyObject)) (origins : List OriginObjects) → Some old ≡ lookup (λ k. bytes_eq origin k.items) entries
+    → after ≡ set_value (λ k. bytes_eq origin k.items) entries now → origin_objects entries ≡ origins → now ≡ old → origin_objects after ≡ origins
+same_origins origin old now entries after origins found written seen is =
+    ap origin_objects (written ∙ ap (λ (objects : List KeyObject). set_value (λ (k : Vec ℕ). bytes_eq origin k.items) entries objects) is
+    ∙ set_value_same (λ (k : Vec ℕ). bytes_eq origin k.items) entries old (sym found)) ∙ seen
+
+-- an origin's objects are those, and so they are these
+pub puts_as : (base old new : List OriginObjects) (origin : List ℕ) (now objects : List KeyObject) → base ≡ old → now ≡ objects → PutsObjects base new origin now → PutsObjects old new origin objects
+puts_as base old new origin now objects same is puts =
+    let P : List KeyObject → Type 0 = λ os. PutsObjects base new origin os in
+    let Q : List OriginObjects → Type 0 = λ os. PutsObjects os new origin objects in
+    subst Q same (subst P is puts)

@@ -6,7 +6,7 @@ ghost use Rattle.ibos_kinds.specs.declared.names.Instance.{Instance};
 ghost use Rattle.ibos_store.specs.Objects.{version_of, with_loss, with_put};
 ghost use Rattle.ibos_store.specs.Requests.{no_requests, with_ask, without};
 ghost use Rattle.ibos_store.specs.Answers.{Answers, ask_answer, label_answer, lose_answer};
-ghost use Rattle.ibos_store.specs.Answers.{newest_answer, none_answer, put_answer};
+ghost use Rattle.ibos_store.specs.Answers.{newest_answer, none_answer, put_answer, quota_answer};
 
 use crate::fault::StoreFault;
 use crate::keys::is_key;
@@ -98,6 +98,24 @@ impl Store {
         if bytes.len() > MAX_OBJECT {
             return Err(StoreFault::Denied(Rule::S2));
         }
+        self.put_newest(origin, key, bytes)
+    }
+
+    // Stores a newest version, unless the origin would store too much.
+    fn put_newest(
+        &mut self,
+        origin: &[u8],
+        key: &[u8],
+        bytes: &[u8],
+    ) -> Result<u32, StoreFault>
+        requires { version_of (object_at self.old origin.now key.now) < 2 ^ 31 }
+        ensures answer { Answers result
+            (quota_answer key.now bytes.now (objects_of self.old origin.now)) }
+        ensures objects { OnOk result (PutsObjects self.old.origins self.new.origins origin.now
+            (with_put key.now bytes.now (objects_of self.old origin.now))) }
+        ensures requests { self.new.requests ≡ self.old.requests }
+        ensures err { OnErr result (self.new ≡ self.old) }
+    {
         match self.origins.get_mut(origin) {
             Some(objects) => objects.put(self.alloc, key, bytes),
             None => {
