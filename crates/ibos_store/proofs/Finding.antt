@@ -1,6 +1,6 @@
 -- Objects found by key, and origins found by their texts.
 use Rattle.std.proofs.Common.{◌≡◌, ℕ, List, [], ◌∷◌, Bool, true, false, refl, sym, ◌∙◌, ap, subst, Option, Some, None}
-use Rattle.std.specs.Prelude.{bytes_eq, cond, if◌then◌else◌}
+use Rattle.std.specs.Prelude.{bytes_eq, ◌&&◌, cond, if◌then◌else◌}
 use Rattle.std.specs.Global.{Vec}
 use Rattle.std.specs.Map.{lookup, set_value}
 use Rattle.std.specs.Option.{unwrap_or}
@@ -9,7 +9,7 @@ use Rattle.std.proofs.lemmas.Map.Steps.{set_value_same}
 use Rattle.indexmap.specs.IndexMap.{insert_entry}
 use Rattle.ibos_store.specs.Objects.{Newest, KeyObject, newest_in, with_newest}
 use Rattle.ibos_store.specs.Stores.{OriginObjects, objects_in, PutsObjects, key_objects, origin_objects}
-use Rattle.ibos_store.proofs.Sums.{same_texts}
+use Rattle.ibos_store.proofs.Sums.{same_texts, apart, at_own, at_other}
 
 -- ---- keys
 
@@ -75,19 +75,6 @@ pub objects_found : (origin : List ℕ) (entries : List (Vec ℕ × List KeyObje
 objects_found origin entries origins found is seen =
     sym (ap (λ (os : List OriginObjects). objects_in os origin) seen) ∙ objects_in-lookup origin entries ∙ sym (ap (λ (r : Option (List KeyObject)). unwrap_or r []) is)
 
-apart : (origin first other : List ℕ) → bytes_eq origin first ≡ false → bytes_eq other first ≡ true → bytes_eq origin other ≡ false
-apart origin first other differs same = let P : List ℕ → Type 0 = λ t. bytes_eq origin t ≡ false in subst P (sym (same_texts other first same)) differs
-
-at_own : (a b : Bool) (now old before : List KeyObject) → a ≡ b → (if a then now else before) ≡ (if b then now else if a then old else before)
-at_own true true now old before same = refl
-at_own false false now old before same = refl
-at_own true false now old before same = cc
-at_own false true now old before same = cc
-
-at_other : (a b : Bool) (now old after before : List KeyObject) → (a ≡ true → b ≡ false) → after ≡ (if b then now else before) → (if a then old else after) ≡ (if b then now else if a then old else before)
-at_other true b now old after before apart h = rw (apart refl) refl
-at_other false b now old after before apart h = h
-
 -- objects written where the origin has some
 puts-set_value : (origin : List ℕ) (old now : List KeyObject) (entries : List (Vec ℕ × List KeyObject)) → lookup (λ k. bytes_eq origin k.items) entries ≡ Some old
     → PutsObjects (origin_objects entries) (origin_objects (set_value (λ k. bytes_eq origin k.items) entries now)) origin now
@@ -139,3 +126,15 @@ puts_as base old new origin now objects same is puts =
     let P : List KeyObject → Type 0 = λ os. PutsObjects base new origin os in
     let Q : List OriginObjects → Type 0 = λ os. PutsObjects os new origin objects in
     subst Q same (subst P is puts)
+
+-- objects of an origin that differ under one key alone
+pub puts_newest : (old new : List OriginObjects) (origin key : List ℕ) (objects : List KeyObject) (found : Option Newest) → PutsObjects old new origin objects
+    → ((k : List ℕ) → newest_in objects k ≡ (if bytes_eq key k then found else newest_in (objects_in old origin) k))
+    → (o k : List ℕ) → newest_in (objects_in new o) k ≡ (if bytes_eq origin o && bytes_eq key k then found else newest_in (objects_in old o) k)
+puts_newest old new origin key objects found puts under o k = by_test (bytes_eq origin o) refl
+  where
+    by_test : (here : Bool) → bytes_eq origin o ≡ here → newest_in (objects_in new o) k ≡ (if here && bytes_eq key k then found else newest_in (objects_in old o) k)
+    by_test true is =
+        ap (λ (os : List KeyObject). newest_in os k) (puts o ∙ ap (λ (b : Bool). if b then objects else objects_in old o) is) ∙ under k
+        ∙ ap (λ t. if bytes_eq key k then found else newest_in (objects_in old t) k) (same_texts origin o is)
+    by_test false is = ap (λ (os : List KeyObject). newest_in os k) (puts o ∙ ap (λ (b : Bool). if b then objects else objects_in old o) is)

@@ -1,11 +1,12 @@
 -- Where the requests of instances stand.
-use Rattle.std.proofs.Common.{◌≡◌, ◌≢◌, ℕ, ◌<◌, ◌≤◌, Bool, true, false, List, [], length, Option, None, refl, sym, ◌∙◌, ap, subst, arith, get_or, Result, Ok, Err}
-use Rattle.std.specs.Prelude.{OnOk, nat_lt, slice_set, option_and_then, if◌then◌else◌}
+use Rattle.std.proofs.Common.{◌≡◌, ◌≢◌, ℕ, ◌<◌, ◌≤◌, Bool, true, false, List, [], ◌∷◌, length, Option, None, Some, refl, sym, ◌∙◌, ap, subst, arith, get_or, Result, Ok, Err}
+use Rattle.std.specs.Prelude.{OnOk, nat_lt, slice_set, option_and_then, not, find, filter, if◌then◌else◌}
 use Rattle.std.proofs.lemmas.Bool.Decides.{nat_tests}
 use Rattle.std.proofs.lemmas.List.{get_or-set_same, get_or-set_other, get_or_read}
 use Rattle.std.proofs.Math.ListN.{get_or-eq_default}
 use Rattle.ibos_kinds.specs.declared.names.Instance.{Instance}
-use Rattle.ibos_store.specs.Requests.{Requests, key_in}
+use Rattle.std.specs.Option.{option_map}
+use Rattle.ibos_store.specs.Requests.{Asked, Requests, is_numbered, key_in, without}
 use Rattle.ibos_store.specs.Stores.{place_of, requests_in, key_at}
 
 -- what stands at an instance's place
@@ -101,3 +102,20 @@ pub key_found : (places seen : List (Option Requests)) (who : Instance) (at numb
 key_found places seen who at number found view is tab read =
     let there : found ≡ requests_in seen who = read ∙ ap (λ k. get_or places k None) is ∙ sym (requests-at places who tab) ∙ ap (λ (t : List (Option Requests)). requests_in t who) view in
     ap (λ (x : Option Requests). option_and_then (λ requests. key_in requests number) x) there
+
+not_found : (number : ℕ) (unanswered : List Asked) → find (is_numbered number) (filter (λ asked. not (is_numbered number asked)) unanswered) ≡ None
+not_found number [] = refl
+not_found number (a ∷ rest) = by_test (is_numbered number a) refl (not_found number rest)
+  where
+    by_test : (here : Bool) → is_numbered number a ≡ here → find (is_numbered number) (filter (λ asked. not (is_numbered number asked)) rest) ≡ None
+        → find (is_numbered number) (filter (λ asked. not (is_numbered number asked)) (a ∷ rest)) ≡ None
+    by_test true is more = rw is more
+    by_test false is more = rw is (rw is more)
+
+-- an answered request isn't unanswered
+pub answered_once : (old new : List (Option Requests)) (who : Instance) (number : ℕ) → requests_in new who ≡ option_map (without number) (requests_in old who) → key_at new who number ≡ None
+answered_once old new who number answered = ap (λ (x : Option Requests). option_and_then (λ requests. key_in requests number) x) answered ∙ by_requests (requests_in old who)
+  where
+    by_requests : (x : Option Requests) → option_and_then (λ requests. key_in requests number) (option_map (without number) x) ≡ None
+    by_requests None = refl
+    by_requests (Some requests) = ap (λ (x : Option Asked). option_map (λ asked. asked.key) x) (not_found number requests.unanswered)

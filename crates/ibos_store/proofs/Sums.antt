@@ -1,10 +1,12 @@
 -- A newest version among the objects of an origin: what it changes, and how it counts.
-use Rattle.std.proofs.Common.{◌≡◌, ℕ, ◌+◌, ◌≤◌, List, [], ◌∷◌, Bool, true, false, refl, sym, ◌∙◌, ap, length, arith, Option, Some, None}
+use Rattle.std.proofs.Common.{◌≡◌, ℕ, ◌+◌, ◌≤◌, List, [], ◌∷◌, Bool, true, false, refl, sym, ◌∙◌, ap, subst, length, arith, Option, Some, None}
 use Rattle.std.specs.Prelude.{bytes_eq, nat_lt, if◌then◌else◌}
+use Rattle.std.specs.Option.{option_map}
+use Rattle.std.specs.Cmp.Lexicographic.{nat_list_eq_equiv}
 use Rattle.std.proofs.lemmas.Bool.Decides.{nat_tests}
 use Rattle.std.proofs.lemmas.Slice.Eq.{bytes_eq-Decides}
 use Rattle.std.proofs.lemmas.List.Sums.{sum_by-cons}
-use Rattle.ibos_store.specs.Objects.{Newest, KeyObject, newest_in, with_newest, stored_bytes, is_over}
+use Rattle.ibos_store.specs.Objects.{Newest, KeyObject, newest_in, after_loss, with_newest, with_loss, with_loss_of, stored_bytes, is_over}
 
 pub same_texts : (xs ys : List ℕ) → bytes_eq xs ys ≡ true → xs ≡ ys
 same_texts xs ys h = (bytes_eq-Decides xs ys).0 h
@@ -23,6 +25,48 @@ with-same key held (o ∷ os) found = by_test (bytes_eq key o.key) refl (with-sa
         let F : Newest → List KeyObject = λ n. record { key = o.key; newest = n } ∷ os in
         rw is (ap (λ (k : List ℕ). record { key = k; newest = held } ∷ os) (same_texts key o.key is) ∙ ap F (sym got))
     by_test false is rest = rw is (ap (λ (xs : List KeyObject). o ∷ xs) (rest (rw is at found)))
+
+pub apart : (key first other : List ℕ) → bytes_eq key first ≡ false → bytes_eq other first ≡ true → bytes_eq key other ≡ false
+apart key first other differs same = let P : List ℕ → Type 0 = λ t. bytes_eq key t ≡ false in subst P (sym (same_texts other first same)) differs
+
+pub at_own : {X : Type 0} (a b : Bool) (now old before : X) → a ≡ b → (if a then now else before) ≡ (if b then now else if a then old else before)
+at_own true true now old before same = refl
+at_own false false now old before same = refl
+at_own true false now old before same = cc
+at_own false true now old before same = cc
+
+pub at_other : {X : Type 0} (a b : Bool) (now old after before : X) → (a ≡ true → b ≡ false) → after ≡ (if b then now else before) → (if a then old else after) ≡ (if b then now else if a then old else before)
+at_other true b now old after before apart h = rw (apart refl) refl
+at_other false b now old after before apart h = h
+
+-- another newest version is under its key, and under no other
+pub newest_in-with_newest : (key : List ℕ) (newest : Newest) (objects : List KeyObject) (k : List ℕ) → newest_in (with_newest key newest objects) k ≡ (if bytes_eq key k then Some newest else newest_in objects k)
+newest_in-with_newest key newest [] k = ap (λ (b : Bool). if b then Some newest else None) (nat_list_eq_equiv.symm k key)
+newest_in-with_newest key newest (o ∷ os) k = by_test (bytes_eq key o.key) refl (newest_in-with_newest key newest os k)
+  where
+    by_test : (here : Bool) → bytes_eq key o.key ≡ here → newest_in (with_newest key newest os) k ≡ (if bytes_eq key k then Some newest else newest_in os k)
+        → newest_in (with_newest key newest (o ∷ os)) k ≡ (if bytes_eq key k then Some newest else newest_in (o ∷ os) k)
+    by_test true is rest = rw is (at_own' (bytes_eq k key) (bytes_eq key k) (bytes_eq k o.key) (nat_list_eq_equiv.symm k key) (ap (λ t. bytes_eq k t) (same_texts key o.key is)))
+      where
+        at_own' : (a b c : Bool) → a ≡ b → a ≡ c → (if a then Some newest else newest_in os k) ≡ (if b then Some newest else if c then Some o.newest else newest_in os k)
+        at_own' true true c same also = refl
+        at_own' false false false same also = refl
+        at_own' false false true same also = cc
+        at_own' true false c same also = cc
+        at_own' false true c same also = cc
+    by_test false is rest = rw is (at_other (bytes_eq k o.key) (bytes_eq key k) (Some newest) (Some o.newest) _ (newest_in os k) (apart key o.key k is) rest)
+
+-- so is a loss
+pub newest_in-with_loss : (key : List ℕ) (objects : List KeyObject) (k : List ℕ) → newest_in (with_loss key objects) k ≡ (if bytes_eq key k then option_map after_loss (newest_in objects key) else newest_in objects k)
+newest_in-with_loss key objects k = by_found (newest_in objects key) refl
+  where
+    absent : newest_in objects key ≡ None → (here : Bool) → bytes_eq key k ≡ here → newest_in objects k ≡ (if here then None else newest_in objects k)
+    absent none true is = ap (λ t. newest_in objects t) (sym (same_texts key k is)) ∙ none
+    absent none false is = refl
+
+    by_found : (found : Option Newest) → newest_in objects key ≡ found → newest_in (with_loss_of found key objects) k ≡ (if bytes_eq key k then option_map after_loss found else newest_in objects k)
+    by_found None is = absent is (bytes_eq key k) refl
+    by_found (Some newest) is = newest_in-with_newest key (after_loss newest) objects k
 
 stored-cons : (o : KeyObject) (os : List KeyObject) → stored_bytes (o ∷ os) ≡ length o.key + o.newest.len + stored_bytes os
 stored-cons o os = sum_by-cons (λ (x : KeyObject). length x.key + x.newest.len) o os

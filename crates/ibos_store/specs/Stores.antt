@@ -1,5 +1,5 @@
 -- All stored objects by their origins, and all requests by their instances.
-use Rattle.std.specs.Prelude.{◌≡◌, ◌≢◌, ℕ, ◌+◌, ◌*◌, List, [], ◌∷◌, map, bytes_eq, nat_lt}
+use Rattle.std.specs.Prelude.{◌≡◌, ◌≢◌, ℕ, ◌+◌, ◌*◌, List, [], ◌∷◌, map, bytes_eq, ◌&&◌, nat_lt}
 use Rattle.std.specs.Prelude.{Option, None, option_and_then, if◌then◌else◌}
 use Rattle.std.specs.List.{slice_index_or}
 use Rattle.std.specs.Global.{Vec}
@@ -34,6 +34,11 @@ object_at store origin key = newest_in (objects_of store origin) key
 abbrev pub PutsObjects : List OriginObjects → List OriginObjects → List ℕ → List KeyObject → Type 0
 PutsObjects old new origin objects = (other : List ℕ)
     → objects_in new other ≡ (if bytes_eq origin other then objects else objects_in old other)
+
+-- what stands under a key of an origin is that now, and all else is as before
+abbrev pub PutsNewest : StoreState → StoreState → List ℕ → List ℕ → Option Newest → Type 0
+PutsNewest old new origin key found = (o k : List ℕ) → object_at new o k
+    ≡ (if bytes_eq origin o && bytes_eq key k then found else object_at old o k)
 
 -- the place of an instance: tabs and ordinals are bytes
 abbrev pub place_of : Instance → ℕ

@@ -14,3 +14,5 @@ mod table;
 pub use fault::StoreFault;
 pub use store::Store;
 
+#[cfg(test)]
+mod tests;

@@ -3,7 +3,7 @@ ghost use Rattle.std.specs.Prelude.{◌≡◌, ◌≢◌, List, ℕ, ◌<◌, �
 ghost use Rattle.std.specs.Prelude.{if◌then◌else◌, bytes_eq};
 ghost use Rattle.std.specs.Option.{option_map};
 ghost use Rattle.ibos_kinds.specs.declared.names.Instance.{Instance};
-ghost use Rattle.ibos_store.specs.Objects.{version_of, with_loss, with_put};
+ghost use Rattle.ibos_store.specs.Objects.{after_loss, after_put, version_of, with_loss, with_put};
 ghost use Rattle.ibos_store.specs.Requests.{no_requests, with_ask, without};
 ghost use Rattle.ibos_store.specs.Answers.{Answers, ask_answer, label_answer, lose_answer};
 ghost use Rattle.ibos_store.specs.Answers.{newest_answer, none_answer, put_answer, quota_answer};
@@ -42,7 +42,7 @@ impl Model for Store {
 
 impl Store {
     ghost use Rattle.ibos_store.specs.Stores.{key_of, object_at, objects_in, objects_of};
-    ghost use Rattle.ibos_store.specs.Stores.{PutsObjects, requests_of, SameRequests};
+    ghost use Rattle.ibos_store.specs.Stores.{PutsNewest, PutsObjects, requests_of, SameRequests};
 
     /// Nothing was put, and no instance was added. Takes no memory.
     pub fn new(alloc: Global) -> Store
@@ -87,6 +87,8 @@ impl Store {
         requires { version_of (object_at self.old origin.now key.now) < 2 ^ 31 }
         ensures answer { Answers result
             (put_answer key.now bytes.now (objects_of self.old origin.now)) }
+        ensures newest { OnOk result (PutsNewest self.old self.new origin.now key.now
+            (Some (after_put (object_at self.old origin.now key.now) bytes.now))) }
         ensures objects { OnOk result (PutsObjects self.old.origins self.new.origins origin.now
             (with_put key.now bytes.now (objects_of self.old origin.now))) }
         ensures requests { self.new.requests ≡ self.old.requests }
@@ -111,6 +113,8 @@ impl Store {
         requires { version_of (object_at self.old origin.now key.now) < 2 ^ 31 }
         ensures answer { Answers result
             (quota_answer key.now bytes.now (objects_of self.old origin.now)) }
+        ensures newest { OnOk result (PutsNewest self.old self.new origin.now key.now
+            (Some (after_put (object_at self.old origin.now key.now) bytes.now))) }
         ensures objects { OnOk result (PutsObjects self.old.origins self.new.origins origin.now
             (with_put key.now bytes.now (objects_of self.old origin.now))) }
         ensures requests { self.new.requests ≡ self.old.requests }
@@ -175,6 +179,7 @@ impl Store {
             origin.now key.now version (object_at self.old origin.now key.now)) }
         ensures own { OnOk result (requests_of self.new who
             ≡ option_map (without request) (requests_of self.old who)) }
+        ensures once { OnOk result (key_of self.new who request ≡ None) }
         ensures others { SameRequests self.old.requests self.new.requests who }
         ensures objects { self.new.origins ≡ self.old.origins }
         ensures err { OnErr result (self.new ≡ self.old) }
@@ -233,6 +238,7 @@ impl Store {
         ensures answer { result ≡ none_answer (key_of self.old who request) }
         ensures own { OnOk result (requests_of self.new who
             ≡ option_map (without request) (requests_of self.old who)) }
+        ensures once { OnOk result (key_of self.new who request ≡ None) }
         ensures others { SameRequests self.old.requests self.new.requests who }
         ensures objects { self.new.origins ≡ self.old.origins }
         ensures err { OnErr result (self.new ≡ self.old) }
@@ -249,6 +255,8 @@ impl Store {
     /// isn't the newest, or where the newest was lost before. Takes no memory.
     pub fn lose(&mut self, origin: &[u8], key: &[u8], version: u32) -> Result<(), Rule>
         ensures answer { result ≡ lose_answer version (object_at self.old origin.now key.now) }
+        ensures newest { OnOk result (PutsNewest self.old self.new origin.now key.now
+            (option_map after_loss (object_at self.old origin.now key.now))) }
         ensures objects { OnOk result (PutsObjects self.old.origins self.new.origins origin.now
             (with_loss key.now (objects_of self.old origin.now))) }
         ensures requests { self.new.requests ≡ self.old.requests }

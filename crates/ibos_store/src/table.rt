@@ -97,6 +97,7 @@ impl RequestTable {
         requires { requests_in self.old who ≢ None }
         ensures own { requests_in self.new who
             ≡ option_map (without number) (requests_in self.old who) }
+        ensures once { key_at self.new who number ≡ None }
         ensures others { SameRequests self.old self.new who }
     {
         match &mut self.places[place_of(who)] {

@@ -2,7 +2,8 @@ use Rattle.std.proofs.Common.{◌≡◌, List, [], refl, sym, ◌∙◌, ap, Som
 use Rattle.ibos_store.specs.Objects.{KeyObject, newest_in, with_loss}
 use Rattle.ibos_store.specs.Answers.{lose_answer}
 use Rattle.ibos_store.specs.Stores.{OriginObjects, StoreState, objects_of, origin_objects}
-use Rattle.ibos_store.proofs.Finding.{objects_found, puts_set, puts_as, same_origins}
+use Rattle.ibos_store.proofs.Finding.{objects_found, puts_set, puts_as, puts_newest, same_origins}
+use Rattle.ibos_store.proofs.Sums.{newest_in-with_loss}
 use Rattle.ibos_store.proofs.Putting.{then_ok, then_err}
 use Rattle.ibos_store.proofs.store.Store.lose.Goals as goal
 
@@ -27,3 +28,8 @@ pub returns-clause-err : goal.returns-clause-err
 returns-clause-err c =
     then_err c.lose.result (λ is. ap (λ (os : List OriginObjects). record { origins = os; requests = c.self.inside.requests })
     (same_origins c.args.origin.now c.in-Some.objects.now c.lose.new.self c.self.inside.origins.entries _ (origin_objects c.self.inside.origins.entries) c.in-Some.ensures.value (c.get_mut.follows.holds c.lose.new.self).0 refl is) ∙ c.self.view_is) c.lose.ensures.err
+
+pub returns-clause-newest : goal.returns-clause-newest
+returns-clause-newest c =
+    let objects = objects_of c.args.self.now c.args.origin.now in
+    then_ok c.lose.result (λ puts. puts_newest c.args.self.now.origins _ c.args.origin.now c.args.key.now (with_loss c.args.key.now objects) _ puts (newest_in-with_loss c.args.key.now objects)) (returns-clause-objects c)

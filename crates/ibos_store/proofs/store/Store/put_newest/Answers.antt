@@ -1,8 +1,9 @@
 use Rattle.std.proofs.Common.{rules, ◌≡◌, ◌<◌, List, [], refl, sym, ◌∙◌, ap, subst, Some, None}
-use Rattle.ibos_store.specs.Objects.{KeyObject, newest_in, version_of, with_put}
+use Rattle.ibos_store.specs.Objects.{KeyObject, newest_in, after_put, version_of, with_put}
 use Rattle.ibos_store.specs.Answers.{Answers, quota_answer}
 use Rattle.ibos_store.specs.Stores.{OriginObjects, StoreState, objects_of, origin_objects}
-use Rattle.ibos_store.proofs.Finding.{objects_found, puts_set, puts_as, same_origins}
+use Rattle.ibos_store.proofs.Finding.{objects_found, puts_set, puts_as, puts_newest, same_origins}
+use Rattle.ibos_store.proofs.Sums.{newest_in-with_newest}
 use Rattle.ibos_store.proofs.Putting.{then_ok, then_err}
 use Rattle.ibos_store.proofs.store.Store.put_newest.Goals as goal
 
@@ -48,3 +49,15 @@ returns-in_ok-put_origin-in-None-clause-objects c =
     let own = objects_found c.args.origin.now c.self.inside.origins.entries c.args.self.now.origins None c.in-None.ensures.value seen in
     puts_as _ c.args.self.now.origins _ c.args.origin.now c.put-in-None.new.self _ ((λ j. origin_objects (c.get_mut.follows.holds-at-none j).entries) ∙ seen)
     (c.in_ok-version-in-None.ensures.ok ∙ ap (with_put c.args.key.now c.args.bytes.now) (c.new-objects.ensures ∙ sym own)) c.in_ok-put_origin-in-None.ensures.ok
+
+pub returns-in-Some-clause-newest : goal.returns-in-Some-clause-newest
+returns-in-Some-clause-newest c =
+    let objects = objects_of c.args.self.now c.args.origin.now in
+    let newest = after_put (newest_in objects c.args.key.now) c.args.bytes.now in
+    then_ok c.put.result (λ puts. puts_newest c.args.self.now.origins _ c.args.origin.now c.args.key.now (with_put c.args.key.now c.args.bytes.now objects) (Some newest) puts (newest_in-with_newest c.args.key.now newest objects)) (returns-in-Some-clause-objects c)
+
+pub returns-in_ok-put_origin-in-None-clause-newest : goal.returns-in_ok-put_origin-in-None-clause-newest
+returns-in_ok-put_origin-in-None-clause-newest c =
+    let objects = objects_of c.args.self.now c.args.origin.now in
+    let newest = after_put (newest_in objects c.args.key.now) c.args.bytes.now in
+    puts_newest c.args.self.now.origins _ c.args.origin.now c.args.key.now (with_put c.args.key.now c.args.bytes.now objects) (Some newest) (returns-in_ok-put_origin-in-None-clause-objects c) (newest_in-with_newest c.args.key.now newest objects)

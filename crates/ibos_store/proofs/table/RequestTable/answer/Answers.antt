@@ -4,7 +4,7 @@ use Rattle.std.specs.Option.{option_map}
 use Rattle.ibos_store.specs.Requests.{Requests, with_ask, without}
 use Rattle.ibos_store.specs.Answers.{Answers, ask_answer}
 use Rattle.ibos_store.specs.Stores.{requests_in}
-use Rattle.ibos_store.proofs.Places.{held_by, requests_within, then_ok}
+use Rattle.ibos_store.proofs.Places.{answered_once, held_by, requests_within, then_ok}
 use Rattle.ibos_store.proofs.table.RequestTable.answer.Goals as goal
 
 pub index_mut-requires : goal.index_mut-requires
@@ -28,3 +28,6 @@ pub returns-clause-others : goal.returns-clause-others
 returns-clause-others c q other =
     let at = held_by c.self.inside.places.items c.args.self.now c.args.who c.place_of.result c.index_mut.result.now c.self.view_is c.requires c.place_of.ensures.place c.place_of.ensures.tab c.index_mut.ensures.value in
     at.others (Some c.answer.new.self) q other ∙ ap (λ t. requests_in t q) c.self.view_is
+
+pub returns-clause-once : goal.returns-clause-once
+returns-clause-once c = answered_once c.args.self.now _ c.args.who c.args.number (returns-clause-own c)
