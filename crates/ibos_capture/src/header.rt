@@ -1,0 +1,104 @@
+// The header of a capture, and that of an entry.
+ghost use Rattle.std.specs.Prelude.{◌≡◌, ◌≤◌, ◌+◌, length, IfOk};
+ghost use Rattle.ibos_capture.specs.Captures.{is_magic, endian_of, header_in, captured_len};
+ghost use Rattle.ibos_capture.specs.Captures.{is_version, is_ethernet};
+
+use crate::fault::CapFault;
+use crate::fields::Endian;
+
+// In bytes.
+const MAX_CAPTURE: usize = 67_108_864;
+
+const MAX_CAPTURED: u32 = 262_144;
+
+pub const HEADER: usize = 24;
+
+pub const ENTRY_HEADER: usize = 16;
+
+// Times in microseconds, and in nanoseconds.
+const MICROSECONDS: u32 = 0xA1B2_C3D4;
+
+const NANOSECONDS: u32 = 0xA1B2_3C4D;
+
+const ETHERNET: u32 = 1;
+
+// The byte order of all fields, where the header has no fault.
+#[tactic(auto, unfolding(crate::specs::Captures::header_in))]
+pub fn read_header(bytes: &[u8]) -> Result<Endian, CapFault>
+    ensures exact { result ≡ header_in bytes.now }
+    ensures header { IfOk result (λ _. 24 ≤ length bytes.now) }
+    ensures limit { IfOk result (λ _. length bytes.now ≤ 67108864) }
+{
+    if bytes.len() > MAX_CAPTURE {
+        return Err(CapFault::TooLong);
+    }
+    let Some(endian) = endian_of(bytes) else {
+        return Err(CapFault::Magic);
+    };
+    if bytes.len() < HEADER {
+        return Err(CapFault::Cut);
+    }
+    if !is_version(endian, bytes) {
+        return Err(CapFault::Version);
+    }
+    if !is_ethernet(endian, bytes) {
+        return Err(CapFault::Link);
+    }
+    Ok(endian)
+}
+
+// The byte order in which the first four bytes are a magic number.
+#[tactic(auto, unfolding(crate::specs::Captures::endian_of))]
+fn endian_of(bytes: &[u8]) -> Option<Endian>
+    ensures { result ≡ endian_of bytes.now }
+{
+    if bytes.len() < 4 {
+        None
+    } else if is_magic(Endian::Big.u32_at(bytes, 0)) {
+        Some(Endian::Big)
+    } else if is_magic(Endian::Little.u32_at(bytes, 0)) {
+        Some(Endian::Little)
+    } else {
+        None
+    }
+}
+
+fn is_magic(number: u32) -> bool
+    ensures { result ≡ is_magic number }
+{
+    number == MICROSECONDS || number == NANOSECONDS
+}
+
+// The version is 2.4.
+fn is_version(endian: Endian, bytes: &[u8]) -> bool
+    requires { 24 ≤ length bytes.now }
+    ensures { result ≡ is_version endian bytes.now }
+{
+    endian.u16_at(bytes, 4) == 2 && endian.u16_at(bytes, 6) == 4
+}
+
+fn is_ethernet(endian: Endian, bytes: &[u8]) -> bool
+    requires { 24 ≤ length bytes.now }
+    ensures { result ≡ is_ethernet endian bytes.now }
+{
+    endian.u32_at(bytes, 20) == ETHERNET
+}
+
+// The number of captured bytes of the entry with which the bytes begin, where it has no fault.
+#[tactic(auto, unfolding(crate::specs::Captures::captured_len))]
+pub fn captured_len(endian: Endian, rest: &[u8]) -> Result<u32, CapFault>
+    ensures exact { result ≡ captured_len endian rest.now }
+    ensures whole { IfOk result (λ len. 16 + len ≤ length rest.now) }
+{
+    if rest.len() < ENTRY_HEADER {
+        return Err(CapFault::Cut);
+    }
+    let len = endian.u32_at(rest, 8);
+    if len > MAX_CAPTURED {
+        return Err(CapFault::Long);
+    }
+    if rest.len() - ENTRY_HEADER < len as usize {
+        return Err(CapFault::Cut);
+    }
+    Ok(len)
+}

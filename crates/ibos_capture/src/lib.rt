@@ -1,0 +1,14 @@
+//! Captures of frames: where each frame lies in the bytes of a packet capture (classic pcap,
+//! version 2.4).
+#![tactic(auto)]
+
+mod fault;
+mod fields;
+mod header;
+mod index;
+
+pub use fault::{CapFault, CaptureFault};
+pub use index::Index;
+
+#[cfg(test)]
+mod tests;
