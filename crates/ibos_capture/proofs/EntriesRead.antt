@@ -25,7 +25,7 @@ with_entries-with_entry : (front : List Entry) (e : Entry) (rest : Result (List 
 with_entries-with_entry front e (Ok entries) = ap (λ es. Ok es) (sym (append_assoc front (e ∷ []) entries))
 with_entries-with_entry front e (Err fault) = refl
 
-entries_from-next : (endian : Endian) (most n place len : ℕ) (rest : List ℕ) → captured_len endian rest ≡ Ok len → 0 < length rest →
+pub entries_from-next : (endian : Endian) (most n place len : ℕ) (rest : List ℕ) → captured_len endian rest ≡ Ok len → 0 < length rest →
     entries_from endian (suc most) n place rest ≡ with_entry (entry (place + 16) len) (entries_from endian most (n + 1) (place + 16 + len) (drop (16 + len) rest))
 unfolding entries_from
 entries_from-next endian most n place len [] there some = absurd (omega arith)
@@ -37,7 +37,7 @@ unfolding entries_from
 entries_from-refused endian most n place fault [] there some = absurd (omega arith)
 entries_from-refused endian most n place fault (b ∷ rest) there some = rw there refl
 
-entries_from-end : (endian : Endian) (most n place : ℕ) (rest : List ℕ) → length rest ≡ 0 → entries_from endian most n place rest ≡ Ok []
+pub entries_from-end : (endian : Endian) (most n place : ℕ) (rest : List ℕ) → length rest ≡ 0 → entries_from endian most n place rest ≡ Ok []
 unfolding entries_from
 entries_from-end endian zero n place rest none = refl
 entries_from-end endian (suc most) n place [] none = refl

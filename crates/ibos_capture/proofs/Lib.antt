@@ -1,1 +1,5 @@
 mod EntriesRead
+mod Numbers
+mod Layouts
+mod Headers
+mod WholeGrammar

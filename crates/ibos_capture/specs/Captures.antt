@@ -22,8 +22,8 @@ is_magic n = n == 0xA1B2C3D4 || n == 0xA1B23C4D
 unfoldable pub endian_of : List ℕ → Option Endian
 endian_of bytes =
     if nat_lt (length bytes) 4 then None
-    else if is_magic (number Big 4 (drop 0 bytes)) then Some Big
-    else if is_magic (number Little 4 (drop 0 bytes)) then Some Little
+    else if is_magic (number Big 4 bytes) then Some Big
+    else if is_magic (number Little 4 bytes) then Some Little
     else None
 
 abbrev pub is_version : Endian → List ℕ → Bool

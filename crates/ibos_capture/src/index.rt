@@ -1,5 +1,6 @@
 // Where the frames of a capture lie.
 ghost use Rattle.std.specs.Prelude.{◌≡◌, ◌<◌, ◌≤◌, ◌++◌, [], ◌∷◌, length, slice_get};
+ghost use Rattle.std.specs.Prelude.{ℕ, ◌+◌, List, slice_range};
 ghost use Rattle.std.specs.Prelude.{Some, Ok, IfOk, OnOk};
 ghost use Rattle.std.specs.List.{All};
 ghost use Rattle.ibos_capture.specs.Captures.{entry, index_in, entries_in, capture_in, frames_at};
@@ -92,7 +93,9 @@ impl Index {
     /// Entries are counted from 0 here.
     pub fn frame(&self, k: u32) -> (u64, u32)
         requires { k < length self.now }
-        ensures { slice_get self.now k ≡ Some (entry result.0 result.1) }
+        ensures entry { slice_get self.now k ≡ Some (entry result.0 result.1) }
+        ensures frame { (bytes : List ℕ) → slice_get (frames_at bytes self.now) k
+            ≡ Some (slice_range bytes result.0 (result.0 + result.1)) }
     {
         let entry = self.entries[k as usize];
         (u64::from(entry.place), entry.len)

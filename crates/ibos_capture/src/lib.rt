@@ -6,9 +6,11 @@ mod fault;
 mod fields;
 mod header;
 mod index;
+mod laws;
 
 pub use fault::{CapFault, CaptureFault};
 pub use index::Index;
+pub use laws::captures_law;
 
 #[cfg(test)]
 mod tests;

@@ -1,5 +1,5 @@
 // Captures of two entries, in each byte order.
-use crate::{CapFault, CaptureFault, Index};
+use crate::{CapFault, CaptureFault, Index, captures_law};
 use std::alloc::Global;
 use std::test::Fail;
 
@@ -38,5 +38,6 @@ fn captures_are_read_in_either_byte_order(rt: HostRuntime) -> Result<(), Fail> {
         assert_eq!(rt; fault_of(rt.alloc(), &BIG[..len]), Some(at));
     }
     assert_eq!(rt; fault_of(rt.alloc(), &BIG[..24]), None);
+    captures_law();
     Ok(())
 }
