@@ -1,5 +1,5 @@
 -- What is read when some entries are.
-use Rattle.std.proofs.Common.{◌≡◌, ◌∙◌, ℕ, zero, suc, ◌+◌, ◌-◌, ◌≤◌, ◌<◌, List, [], ◌∷◌, ◌++◌, length, take, drop, subst, refl, ap, sym, arith, Result, Ok, Err}
+use Rattle.std.proofs.Common.{◌≡◌, ◌∙◌, ℕ, zero, suc, ◌+◌, ◌-◌, ◌≤◌, ◌<◌, List, [], ◌∷◌, ◌++◌, length, take, drop, refl, ap, sym, arith, Result, Ok, Err}
 use Rattle.std.proofs.lemmas.List.{take_all, append-nil, append_assoc, length-append, drop-drop, length-drop}
 use Rattle.ibos_capture.specs.declared.fault.CapFault.{CapFault}
 use Rattle.ibos_capture.specs.declared.fields.Endian.{Endian}

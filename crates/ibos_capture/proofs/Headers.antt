@@ -1,12 +1,11 @@
 -- The header of a capture, as it is read and as it is laid out.
-use Rattle.std.proofs.Common.{if◌then◌else◌, ◌≡◌, ◌∙◌, ℕ, ◌+◌, ◌*◌, ◌^◌, ◌<◌, ◌≤◌, ◌⊎◌, inl, inr, ◌==◌, ◌&&◌, ◌||◌, not, List, length, drop, slice_index, refl, ap, sym, subst, arith, Option, Some, None, Result, Ok, Err, Bool, true, false, nat_lt}
+use Rattle.std.proofs.Common.{if◌then◌else◌, ◌≡◌, ◌∙◌, ℕ, ◌≤◌, ◌⊎◌, inl, inr, List, length, drop, refl, ap, sym, subst, arith, Option, Some, None, Ok, Bool, true, false, nat_lt}
 use Rattle.std.proofs.lemmas.Bool.Decides.{nat_tests}
 use Rattle.ibos_kinds.specs.Frames.{IsBytes}
-use Rattle.ibos_capture.specs.declared.fault.CapFault.{CapFault}
 use Rattle.ibos_capture.specs.declared.fields.Endian.{Endian}
 use Rattle.ibos_capture.specs.declared.fields.Endian.TheVariants.{Big, Little}
 use Rattle.ibos_capture.specs.Fields.{number}
-use Rattle.ibos_capture.specs.Captures.{is_magic, endian_of, is_version, is_ethernet, header_with, header_in}
+use Rattle.ibos_capture.specs.Captures.{is_magic, endian_of, header_with, header_in}
 use Rattle.ibos_capture.specs.Layouts.{HasHeader}
 
 abbrev pub IsMagic : ℕ → Type 0

@@ -1,7 +1,7 @@
 -- Entries as they are read are entries one after the other, and the other way round.
-use Rattle.std.proofs.Common.{◌≡◌, ◌∙◌, ℕ, zero, suc, ◌+◌, ◌-◌, ◌≤◌, ◌<◌, List, [], ◌∷◌, ◌++◌, length, take, drop, map, refl, ap, sym, subst, arith, Result, Ok, Err, Bool, true, false, nat_lt}
+use Rattle.std.proofs.Common.{◌≡◌, ◌∙◌, ℕ, zero, suc, ◌+◌, ◌-◌, ◌≤◌, List, [], ◌∷◌, ◌++◌, length, take, drop, refl, ap, sym, subst, arith, Result, Ok, Err}
 use Rattle.std.proofs.lemmas.Bool.Decides.{nat_tests}
-use Rattle.std.proofs.lemmas.List.{append_assoc, take-append-drop, length-append, length-take, length-drop, drop-drop, drop-append-le, take-append-le}
+use Rattle.std.proofs.lemmas.List.{append_assoc, take-append-drop, length-append, length-take, length-drop, drop-drop}
 use Rattle.std.proofs.Math.Seq.{drop-append_seam, drop-append-add, take-append_seam}
 use Rattle.ibos_capture.specs.declared.fault.CapFault.{CapFault}
 use Rattle.ibos_capture.specs.declared.fields.Endian.{Endian}

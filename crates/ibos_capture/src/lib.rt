@@ -1,5 +1,8 @@
-//! Captures of frames: where each frame lies in the bytes of a packet capture (classic pcap,
-//! version 2.4).
+//! Packet captures (classic pcap, version 2.4): where each frame lies in the bytes of a file.
+//!
+//! A file is gone over once, from its header on, and no frame is copied: what is kept are a place
+//! and a length for each entry, 8 bytes in all. `Index::read` gives them, or the first fault and its
+//! entry.
 #![tactic(auto)]
 
 mod fault;

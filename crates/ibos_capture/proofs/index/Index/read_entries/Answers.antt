@@ -1,4 +1,4 @@
-use Rattle.std.proofs.Common.{◌≡◌, ◌∙◌, ◌≤◌, ◌++◌, [], ◌∷◌, length, drop, Ok, Err, ◌+◌, ◌*◌, ap, sym, subst, arith}
+use Rattle.std.proofs.Common.{◌≡◌, ◌∙◌, ◌≤◌, ◌++◌, [], ◌∷◌, length, drop, Ok, Err, ◌+◌, ap, sym, subst, arith}
 use Rattle.std.specs.List.{All}
 use Rattle.std.proofs.lemmas.List.{length-append, length-drop}
 use Rattle.std.proofs.lemmas.List.Elements.{All-nil, All-push}
@@ -39,7 +39,7 @@ returns-in-Err-clause-reads c =
     let there : captured_len c.args.endian (drop c.entries.place c.args.bytes.now) ≡ Err c.in-Err.fault =
     ap (captured_len c.args.endian) (sym (rest_is c.entries.place c.args.bytes.now)) ∙ sym c.in-Err.ensures.exact in
     is_read-refused c.args.endian c.args.bytes.now c.entries.place c.in-Err.fault c.entries.entries.items c.entries.invariant.read (omega (arith, c.entries-test.true)) there
-    ∙ ap (λ n. Err (n + 1, c.in-Err.fault)) (omega (arith, c.len.ensures, c.entries.entries.ok))
+    ∙ ap (λ n. Err (n, c.in-Err.fault)) (omega (arith, c.len.ensures, c.entries.entries.ok))
 
 pub returns-clause-reads : goal.returns-clause-reads
 returns-clause-reads c =
