@@ -1,5 +1,5 @@
 -- Cookie jars by origin, and what a set makes of them.
-use Rattle.std.specs.Prelude.{◌≡◌, ℕ, List, [], ◌∷◌, ◌++◌, ◌==◌, length, map, codes, bytes_eq}
+use Rattle.std.specs.Prelude.{◌≡◌, ℕ, List, [], ◌∷◌, map, bytes_eq}
 use Rattle.std.specs.Prelude.{if◌then◌else◌}
 use Rattle.std.specs.Global.{Vec}
 use Rattle.ibos_kinds.specs.declared.cookies.Cookie.{Cookie}
@@ -29,18 +29,3 @@ PutsJar old new origin jar = (other : List ℕ)
 -- the jars that a table by origin holds, in its order
 abbrev pub origin_jars : List (Vec ℕ × List Cookie) → List OriginJar
 origin_jars entries = map (λ entry. record { origin = entry.0.items; cookies = entry.1 }) entries
-
--- the cookies that a table by name holds, in its order
-abbrev pub named_cookies : List (Vec ℕ × Cookie) → List Cookie
-named_cookies entries = map (λ entry.
-    record { name = entry.0.items; value = entry.1.value }) entries
-
--- each stands under its own name
-abbrev pub AreNamed : List (Vec ℕ × Cookie) → Type 0
-AreNamed [] = Unit {0}
-AreNamed (entry ∷ entries) = (entry.1.name ≡ entry.0.items) × AreNamed entries
-
--- a text with one pair more
-abbrev pub joined : List ℕ → Cookie → List ℕ
-joined text cookie = (if length text == 0 then text else text ++ codes "; ") ++ cookie.name
-    ++ codes "=" ++ cookie.value

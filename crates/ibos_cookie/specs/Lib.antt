@@ -1,3 +1,3 @@
 pub mod Jars
 pub mod Faults
-pub mod Pairs
+pub mod Lines

@@ -1,42 +1,49 @@
 // The jar of one origin.
-ghost use Rattle.std.specs.Prelude.{◌≡◌, ◌≤◌, ◌+◌, [], ◌||◌, false, nat_lt, length, IfOk, OnOk};
-ghost use Rattle.std.specs.Prelude.{OnErr};
+ghost use Rattle.std.specs.Prelude.{◌≡◌, ◌≤◌, ◌<◌, ◌+◌, ◌^◌, ◌++◌, [], ◌||◌, false, nat_lt};
+ghost use Rattle.std.specs.Prelude.{length, take, drop, IfOk, OnOk, OnErr};
 ghost use Rattle.ibos_kinds.specs.Cookies.{cookie_in, set_breaks, jar_text, is_over, put};
-ghost use Rattle.ibos_cookie.specs.Jars.{joined};
+ghost use Rattle.ibos_cookie.specs.Lines.{front, table_len};
+ghost use Rattle.ibos_cookie.specs.Lines as spec;
 ghost use Rattle.ibos_cookie.specs.Faults.{Answers, full_rule};
 
 use crate::jars::CookieFault;
-use crate::pair::Pair;
 use crate::texts::{is_token, is_value, split_cookie};
 use ibos_kinds::{Bytes, Memory, Rule};
 use indexmap::IndexMap;
 use std::alloc::Global;
 use std::marker::Model;
+use std::mem::swap;
 
 const MAX_COOKIES: usize = 20;
 
 const MAX_BYTES: usize = 4096;
 
-/// The cookies of one origin: each by its name, in the order in which the names were first
-/// set, and how many bytes both have together.
+// What a cookie's line has beside its name and its value: `; ` and `=`.
+const MARKS: usize = 3;
+
+/// The cookies of one origin, in the order in which their names were first set. They are kept as
+/// one text, so that reading them is one copy.
 #[derive(Drop)]
 pub struct Jar {
-    pairs: IndexMap<Vec<u8>, Pair>,
-    bytes: usize,
+    // How many bytes each value has, by its name.
+    lens: IndexMap<Vec<u8>, usize>,
+    // Each cookie as `; name=value`.
+    text: Vec<u8>,
+    // Room in which the text of the next set is made.
+    room: Vec<u8>,
 }
 
 impl Model for Jar {
-    ghost use Rattle.std.specs.Prelude.{◌≡◌, List, false};
+    ghost use Rattle.std.specs.Prelude.{List};
     ghost use Rattle.ibos_kinds.specs.declared.cookies.Cookie.{Cookie};
-    ghost use Rattle.ibos_kinds.specs.Cookies.{jar_bytes, is_over};
-    ghost use Rattle.ibos_cookie.specs.Jars.{AreNamed, named_cookies};
+    ghost use Rattle.ibos_cookie.specs.Lines.{cookies_in, IsJar};
 
     ghost Value = { List Cookie };
 
-    ghost view = { λ j. named_cookies j.pairs.entries };
+    ghost view = { λ j. cookies_in j.lens.entries j.text.items };
 
-    ghost invariant = { λ j. (j.bytes ≡ jar_bytes (named_cookies j.pairs.entries))
-        × (is_over (named_cookies j.pairs.entries) ≡ false) × AreNamed j.pairs.entries };
+    ghost invariant = { λ j. IsJar j.lens.entries j.text.items
+        (cookies_in j.lens.entries j.text.items) };
 }
 
 impl Jar {
@@ -45,8 +52,9 @@ impl Jar {
         ensures { result ≡ [] }
     {
         Jar {
-            pairs: IndexMap::new(alloc),
-            bytes: 0,
+            lens: IndexMap::new(alloc),
+            text: Vec::new(alloc),
+            room: Vec::new(alloc),
         }
     }
 
@@ -58,24 +66,29 @@ impl Jar {
             ≡ put (record { name = name.now; value = value.now }) self.old) }
         ensures err { OnErr result (self.new ≡ self.old) }
     {
-        let count = self.pairs.len();
-        match self.pairs.get_mut(name) {
-            Some(held) => {
-                let bytes = self.bytes - held.value_len();
-                if passes_limit(count, bytes, 0, value.len()) {
+        let count = self.lens.len();
+        let text = self.text.as_slice();
+        let bytes = text.len() - MARKS * count;
+        match self.lens.get_full(name) {
+            Some((index, _name, len)) => {
+                let len = *len;
+                if passes_limit(count, bytes - len, 0, value.len()) {
                     return Err(CookieFault::Denied(Rule::C3));
                 }
-                held.set_value(value)?;
-                self.bytes = bytes + value.len();
+                let at = value_at(&self.lens, index);
+                splice(&mut self.room, text, at, len, value)?;
+                self.lens[index] = value.len();
+                swap(&mut self.text, &mut self.room);
                 Ok(())
             }
             None => {
-                if passes_limit(count + 1, self.bytes, name.len(), value.len()) {
+                if passes_limit(count + 1, bytes, name.len(), value.len()) {
                     return Err(CookieFault::Denied(Rule::C3));
                 }
-                let pair = Pair::new(alloc, name, value)?;
-                self.pairs.insert(Vec::from_slice(alloc, name)?, pair)?;
-                self.bytes += name.len() + value.len();
+                append(&mut self.room, text, name, value)?;
+                self.lens
+                    .insert(Vec::from_slice(alloc, name)?, value.len())?;
+                swap(&mut self.text, &mut self.room);
                 Ok(())
             }
         }
@@ -105,13 +118,11 @@ impl Jar {
     pub fn text(&self, alloc: Global) -> Result<Bytes, Memory>
         ensures { IfOk result (λ text. text ≡ jar_text self.now) }
     {
-        let mut text = Bytes::new(alloc);
-        // room for all at once: two bytes part the pairs, and one parts a name from its value
-        text.reserve(self.bytes + 3 * MAX_COOKIES)?;
-        for (_name, pair) in &self.pairs {
-            push_pair(&mut text, pair)?;
+        // No mark stands before the first.
+        match self.text.as_slice() {
+            [_, _, pairs @ ..] => Bytes::from_slice(alloc, pairs),
+            _ => Ok(Bytes::new(alloc)),
         }
-        Ok(text)
     }
 }
 
@@ -124,14 +135,53 @@ fn passes_limit(count: usize, bytes: usize, name_len: usize, value_len: usize) -
     count > MAX_COOKIES || name_len > room || value_len > room - name_len
 }
 
-// Appends a pair, behind a semicolon and a space unless it is the first.
-fn push_pair(text: &mut Bytes, pair: &Pair) -> Result<(), Memory>
-    ensures { OnOk result (text.new ≡ joined text.old pair.now) }
+// Where the value of a cookie begins in the text of its jar.
+fn value_at(lens: &IndexMap<Vec<u8>, usize>, index: usize) -> usize
+    requires small { table_len lens.now.entries < 2 ^ 63 }
+    requires index { index < length lens.now.entries }
+    ensures { result ≡ spec.value_at lens.now.entries index }
 {
-    if text.is_empty() {
-        text.push_slice(pair.first())?;
-    } else {
-        text.push_slice(pair.line())?;
+    let mut at = 0;
+    let mut left = index;
+    for (name, len) in lens {
+        if left == 0 {
+            return at + name.len() + MARKS;
+        }
+        at += name.len() + MARKS + *len;
+        left -= 1;
     }
+    at
+}
+
+// Makes a text that has a value in place of what stands at one place of another text.
+fn splice(
+    made: &mut Vec<u8>,
+    text: &[u8],
+    at: usize,
+    len: usize,
+    value: &[u8],
+) -> Result<(), Memory>
+    requires { at + len ≤ length text.now }
+    ensures { OnOk result (made.new.items ≡ take at text.now ++ value.now
+        ++ drop (at + len) text.now) }
+{
+    made.clear();
+    made.extend_from_slice(&text[..at])?;
+    made.extend_from_slice(value)?;
+    made.extend_from_slice(&text[at + len..])?;
+    Ok(())
+}
+
+// Makes a text that has one cookie more than another.
+#[tactic(auto, unfolding(crate::specs::Lines::front))]
+fn append(made: &mut Vec<u8>, text: &[u8], name: &[u8], value: &[u8]) -> Result<(), Memory>
+    ensures { OnOk result (made.new.items ≡ text.now ++ front name.now ++ value.now) }
+{
+    made.clear();
+    made.extend_from_slice(text)?;
+    made.extend_from_slice(b"; ")?;
+    made.extend_from_slice(name)?;
+    made.extend_from_slice(b"=")?;
+    made.extend_from_slice(value)?;
     Ok(())
 }

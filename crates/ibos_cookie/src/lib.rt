@@ -3,7 +3,6 @@
 
 mod jar;
 mod jars;
-mod pair;
 mod texts;
 
 pub use jars::{CookieFault, Jars};

@@ -1,114 +1,147 @@
-use Rattle.std.proofs.Common.{◌≡◌, List, ℕ, Bool, false, Option, Some, None, Result, Ok, Err, ◌∙◌, sym, ap, subst, arith}
-use Rattle.std.specs.Prelude.{OnErr, bytes_eq, if◌then◌else◌}
-use Rattle.std.specs.Map.{set_value}
-use Rattle.ibos_cookie.specs.declared.jars.CookieFault.{CookieFault}
+use Rattle.std.proofs.Common.{◌≡◌, ◌+◌, ◌++◌, List, ℕ, take, drop, Bool, Option, Some, None, ◌∙◌, sym, ap, subst, length, arith}
+use Rattle.std.specs.Prelude.{if◌then◌else◌}
 use Rattle.std.specs.Global.{Vec}
 use Rattle.ibos_kinds.specs.declared.cookies.Cookie.{Cookie}
 use Rattle.ibos_kinds.specs.declared.rule.Rule.{Rule}
 use Rattle.ibos_kinds.specs.declared.rule.Rule.TheVariants.{C3}
-use Rattle.ibos_kinds.specs.Cookies.{jar_bytes, is_over}
-use Rattle.ibos_cookie.specs.Jars.{AreNamed, named_cookies}
-use Rattle.ibos_cookie.proofs.Putting.{bytes_within, held_within, over_held, over_new, sum_held, put_held, sum_new, put_new, set-same, held_name, names-set_value, names-insert_entry}
+use Rattle.ibos_kinds.specs.Cookies.{put}
+use Rattle.ibos_cookie.specs.Lines.{IsJar, front, value_at}
+use Rattle.ibos_cookie.proofs.Lines.{found_at, sizes, held_within, place_within, over_held, jar_held, over_new, jar_new, jar_is, is_jar}
 use Rattle.ibos_cookie.proofs.jar.Jar.put.Goals as goal
-
-on_err : (r : Result Unit CookieFault) (P : Type 0) → P → OnErr r P
-on_err (Ok done) P p = tt
-on_err (Err fault) P p = p
 
 full : Bool → Option Rule
 full over = if over then Some C3 else None
 
+-- the jar as its caller sees it
+stands : (view jar : List Cookie) (entries : List (Vec ℕ × ℕ)) (text : List ℕ) → view ≡ jar → IsJar entries text view → IsJar entries text jar
+stands view jar entries text seen is =
+    let P : List Cookie → Type 0 = IsJar entries text in
+    subst P seen is
+
+pub overflow_mul-bytes : goal.overflow_mul-bytes
+overflow_mul-bytes c =
+    let is = stands _ c.args.self.now c.self.inside.lens.entries c.self.inside.text.items c.self.view_is c.self.invariant in
+    let size = sizes c.args.name.now c.args.value.now c.self.inside.lens.entries c.self.inside.text.items c.args.self.now is c.len-count.result (length c.as_slice-text.result.now) c.len-count.ensures.len (ap (λ (t : List ℕ). length t) c.as_slice-text.ensures.value) in
+    omega (arith, size.few)
+
 pub overflow_sub-bytes : goal.overflow_sub-bytes
-overflow_sub-bytes c = held_within c.args.name.now c.args.value.now c.in-Some.held.now c.self.inside.pairs.entries c.args.self.now _ _ (sym c.in-Some.ensures.value) c.self.invariant.0 c.self.view_is c.value_len.ensures
+overflow_sub-bytes c =
+    let is = stands _ c.args.self.now c.self.inside.lens.entries c.self.inside.text.items c.self.view_is c.self.invariant in
+    let size = sizes c.args.name.now c.args.value.now c.self.inside.lens.entries c.self.inside.text.items c.args.self.now is c.len-count.result (length c.as_slice-text.result.now) c.len-count.ensures.len (ap (λ (t : List ℕ). length t) c.as_slice-text.ensures.value) in
+    size.marks
+
+pub overflow_sub-bytes-in-Some : goal.overflow_sub-bytes-in-Some
+overflow_sub-bytes-in-Some c =
+    let is = stands _ c.args.self.now c.self.inside.lens.entries c.self.inside.text.items c.self.view_is c.self.invariant in
+    let at = found_at c.args.name.now c.in-Some.len.now c.self.inside.lens.entries c.in-Some.index c.in-Some.ensures.index c.in-Some.ensures.value in
+    let within = held_within c.args.name.now c.args.value.now c.self.inside.lens.entries c.self.inside.text.items c.args.self.now is c.in-Some.index c.in-Some.len.now at c.len-count.result (length c.as_slice-text.result.now) c.len-count.ensures.len (ap (λ (t : List ℕ). length t) c.as_slice-text.ensures.value) in
+    within
 
 pub passes_limit-requires : goal.passes_limit-requires
-passes_limit-requires c = let within = bytes_within _ c.self.invariant.1 in omega (arith, within, c.self.invariant.0)
+passes_limit-requires c =
+    let is = stands _ c.args.self.now c.self.inside.lens.entries c.self.inside.text.items c.self.view_is c.self.invariant in
+    let size = sizes c.args.name.now c.args.value.now c.self.inside.lens.entries c.self.inside.text.items c.args.self.now is c.len-count.result (length c.as_slice-text.result.now) c.len-count.ensures.len (ap (λ (t : List ℕ). length t) c.as_slice-text.ensures.value) in
+    omega (arith, size.within)
 
 pub passes_limit-requires-in-None : goal.passes_limit-requires-in-None
-passes_limit-requires-in-None c = let within = bytes_within _ c.self.invariant.1 in omega (arith, within, c.self.invariant.0)
+passes_limit-requires-in-None c =
+    let is = stands _ c.args.self.now c.self.inside.lens.entries c.self.inside.text.items c.self.view_is c.self.invariant in
+    let size = sizes c.args.name.now c.args.value.now c.self.inside.lens.entries c.self.inside.text.items c.args.self.now is c.len-count.result (length c.as_slice-text.result.now) c.len-count.ensures.len (ap (λ (t : List ℕ). length t) c.as_slice-text.ensures.value) in
+    size.within
+
+pub value_at-at-requires-clause-small : goal.value_at-at-requires-clause-small
+value_at-at-requires-clause-small c =
+    let is = stands _ c.args.self.now c.self.inside.lens.entries c.self.inside.text.items c.self.view_is c.self.invariant in
+    let size = sizes c.args.name.now c.args.value.now c.self.inside.lens.entries c.self.inside.text.items c.args.self.now is c.len-count.result (length c.as_slice-text.result.now) c.len-count.ensures.len (ap (λ (t : List ℕ). length t) c.as_slice-text.ensures.value) in
+    size.small
+
+pub splice-requires : goal.splice-requires
+splice-requires c =
+    let is = stands _ c.args.self.now c.self.inside.lens.entries c.self.inside.text.items c.self.view_is c.self.invariant in
+    let at = found_at c.args.name.now c.in-Some.len.now c.self.inside.lens.entries c.in-Some.index c.in-Some.ensures.index c.in-Some.ensures.value in
+    let within = place_within c.args.name.now c.args.value.now c.self.inside.lens.entries c.self.inside.text.items c.args.self.now is c.in-Some.index c.in-Some.len.now at in
+    omega (arith, within, c.value_at-at.ensures, ap (λ (t : List ℕ). length t) c.as_slice-text.ensures.value)
 
 -- the jar would pass a limit
 
 pub returns-then-passes_limit-clause-answer : goal.returns-then-passes_limit-clause-answer
 unfolding full
 returns-then-passes_limit-clause-answer c =
-    ap full (sym (c.passes_limit.ensures ∙ over_held c.args.name.now c.args.value.now c.in-Some.held.now c.self.inside.pairs.entries c.args.self.now _ _ (sym c.in-Some.ensures.value) c.self.invariant.0 c.self.view_is c.value_len.ensures _ c.len-count.ensures.len) ∙ c.if-passes_limit.true)
+    let is = stands _ c.args.self.now c.self.inside.lens.entries c.self.inside.text.items c.self.view_is c.self.invariant in
+    let at = found_at c.args.name.now c.in-Some.len.now c.self.inside.lens.entries c.in-Some.index c.in-Some.ensures.index c.in-Some.ensures.value in
+    let over = over_held c.args.name.now c.args.value.now c.self.inside.lens.entries c.self.inside.text.items c.args.self.now is c.in-Some.index c.in-Some.len.now at c.len-count.result (length c.as_slice-text.result.now) c.len-count.ensures.len (ap (λ (t : List ℕ). length t) c.as_slice-text.ensures.value) in
+    ap full (sym (c.passes_limit.ensures ∙ over) ∙ c.if-passes_limit.true)
 
 pub returns-then-passes_limit-2-clause-answer : goal.returns-then-passes_limit-2-clause-answer
 unfolding full
 returns-then-passes_limit-2-clause-answer c =
-    ap full (sym (c.passes_limit-in-None.ensures ∙ over_new c.args.name.now c.args.value.now c.self.inside.pairs.entries c.args.self.now _ c.self.invariant.0 c.self.view_is _ (sym c.in-None.ensures.value) c.len-count.ensures.len) ∙ c.if-passes_limit-2.true)
-
-pub invariant_of-self : goal.invariant_of-self
-invariant_of-self c =
-    let P : List (Vec ℕ × Cookie) → Type 0 = λ es. (c.self.inside.bytes ≡ jar_bytes (named_cookies es)) × (is_over (named_cookies es) ≡ false) × AreNamed es in
-    subst P (sym ((c.get_mut.follows.holds c.in-Some.held.now).0 ∙ set-same c.args.name.now c.in-Some.held.now c.self.inside.pairs.entries (sym c.in-Some.ensures.value))) c.self.invariant
-
-pub returns-then-passes_limit-clause-err : goal.returns-then-passes_limit-clause-err
-returns-then-passes_limit-clause-err c =
-    ap named_cookies ((c.get_mut.follows.holds c.in-Some.held.now).0 ∙ set-same c.args.name.now c.in-Some.held.now c.self.inside.pairs.entries (sym c.in-Some.ensures.value)) ∙ c.self.view_is
-
--- out of memory
-
-pub invariant_of-self-in_err-set_value-in-Some : goal.invariant_of-self-in_err-set_value-in-Some
-invariant_of-self-in_err-set_value-in-Some c =
-    let P : List (Vec ℕ × Cookie) → Type 0 = λ es. (c.self.inside.bytes ≡ jar_bytes (named_cookies es)) × (is_over (named_cookies es) ≡ false) × AreNamed es in
-    subst P (sym ((c.get_mut.follows.holds c.set_value.new.self).0
-    ∙ ap (λ (p : Cookie). set_value (λ (key : Vec ℕ). bytes_eq c.args.name.now key.items) c.self.inside.pairs.entries p) c.in_err-set_value-in-Some.ensures.err
-    ∙ set-same c.args.name.now c.in-Some.held.now c.self.inside.pairs.entries (sym c.in-Some.ensures.value))) c.self.invariant
-
-pub returns-in_err-set_value-in-Some-clause-err : goal.returns-in_err-set_value-in-Some-clause-err
-returns-in_err-set_value-in-Some-clause-err c = on_err _ _ (ap named_cookies ((c.get_mut.follows.holds c.set_value.new.self).0
-    ∙ ap (λ (p : Cookie). set_value (λ (key : Vec ℕ). bytes_eq c.args.name.now key.items) c.self.inside.pairs.entries p) c.in_err-set_value-in-Some.ensures.err
-    ∙ set-same c.args.name.now c.in-Some.held.now c.self.inside.pairs.entries (sym c.in-Some.ensures.value)) ∙ c.self.view_is)
+    let is = stands _ c.args.self.now c.self.inside.lens.entries c.self.inside.text.items c.self.view_is c.self.invariant in
+    let over = over_new c.args.name.now c.args.value.now c.self.inside.lens.entries c.self.inside.text.items c.args.self.now is (sym c.in-None.ensures.value) c.len-count.result (length c.as_slice-text.result.now) c.len-count.ensures.len (ap (λ (t : List ℕ). length t) c.as_slice-text.ensures.value) in
+    ap full (sym (c.passes_limit-in-None.ensures ∙ over) ∙ c.if-passes_limit-2.true)
 
 -- another value
 
 pub invariant_of-self-in-Some : goal.invariant_of-self-in-Some
 invariant_of-self-in-Some c =
-    let sum = sum_held c.args.name.now c.args.value.now c.in-Some.held.now c.self.inside.pairs.entries c.args.self.now _ _ (sym c.in-Some.ensures.value) c.self.invariant.0 c.self.view_is c.value_len.ensures in
-    let became = c.in_ok-set_value-in-Some.ensures.ok in
-    let is = put_held c.args.name.now c.args.value.now c.in-Some.held.now c.self.inside.pairs.entries c.args.self.now _ _ (sym c.in-Some.ensures.value) c.self.invariant.0 c.self.view_is c.value_len.ensures
-    _ c.set_value.new.self (c.get_mut.follows.holds c.set_value.new.self).0 (ap (λ (p : Cookie). p.value) became) in
-    let name = held_name c.args.name.now c.in-Some.held.now c.self.inside.pairs.entries (sym c.in-Some.ensures.value) c.self.invariant.2 in
-    let P : List (Vec ℕ × Cookie) → Type 0 = AreNamed in (
-      sum ∙ ap jar_bytes (sym is),
-      ap is_over is ∙ sym (c.passes_limit.ensures ∙ over_held c.args.name.now c.args.value.now c.in-Some.held.now c.self.inside.pairs.entries c.args.self.now _ _ (sym c.in-Some.ensures.value) c.self.invariant.0 c.self.view_is c.value_len.ensures _ c.len-count.ensures.len) ∙ c.if-passes_limit.false,
-      subst P (sym (c.get_mut.follows.holds c.set_value.new.self).0) (names-set_value c.args.name.now c.set_value.new.self c.self.inside.pairs.entries (ap (λ (p : Cookie). p.name) became ∙ name) c.self.invariant.2),
-    )
+    let is = stands _ c.args.self.now c.self.inside.lens.entries c.self.inside.text.items c.self.view_is c.self.invariant in
+    let at = found_at c.args.name.now c.in-Some.len.now c.self.inside.lens.entries c.in-Some.index c.in-Some.ensures.index c.in-Some.ensures.value in
+    let over = over_held c.args.name.now c.args.value.now c.self.inside.lens.entries c.self.inside.text.items c.args.self.now is c.in-Some.index c.in-Some.len.now at c.len-count.result (length c.as_slice-text.result.now) c.len-count.ensures.len (ap (λ (t : List ℕ). length t) c.as_slice-text.ensures.value) in
+    let text : c.swap.new.x.items ≡ take (value_at c.self.inside.lens.entries c.in-Some.index) c.self.inside.text.items ++ c.args.value.now
+    ++ drop (value_at c.self.inside.lens.entries c.in-Some.index + c.in-Some.len.now) c.self.inside.text.items =
+    ap (λ (v : Vec ℕ). v.items) c.swap.ensures.x_after ∙ c.in_ok-splice-in-Some.ensures
+    ∙ ap (λ n. take n c.as_slice-text.result.now ++ c.args.value.now ++ drop (n + c.in-Some.len.now) c.as_slice-text.result.now) c.value_at-at.ensures
+    ∙ ap (λ t. take (value_at c.self.inside.lens.entries c.in-Some.index) t ++ c.args.value.now ++ drop (value_at c.self.inside.lens.entries c.in-Some.index + c.in-Some.len.now) t) c.as_slice-text.ensures.value in
+    let made = jar_held c.args.name.now c.args.value.now c.self.inside.lens.entries c.self.inside.text.items c.args.self.now is c.in-Some.index c.in-Some.len.now at c.swap.new.x.items text (sym over ∙ sym c.passes_limit.ensures ∙ c.if-passes_limit.false) in
+    is_jar _ _ _ made
 
-pub returns-in_ok-set_value-in-Some-clause-answer : goal.returns-in_ok-set_value-in-Some-clause-answer
+pub returns-in_ok-splice-in-Some-clause-answer : goal.returns-in_ok-splice-in-Some-clause-answer
 unfolding full
-returns-in_ok-set_value-in-Some-clause-answer c =
-    ap full (sym (c.passes_limit.ensures ∙ over_held c.args.name.now c.args.value.now c.in-Some.held.now c.self.inside.pairs.entries c.args.self.now _ _ (sym c.in-Some.ensures.value) c.self.invariant.0 c.self.view_is c.value_len.ensures _ c.len-count.ensures.len) ∙ c.if-passes_limit.false)
+returns-in_ok-splice-in-Some-clause-answer c =
+    let is = stands _ c.args.self.now c.self.inside.lens.entries c.self.inside.text.items c.self.view_is c.self.invariant in
+    let at = found_at c.args.name.now c.in-Some.len.now c.self.inside.lens.entries c.in-Some.index c.in-Some.ensures.index c.in-Some.ensures.value in
+    let over = over_held c.args.name.now c.args.value.now c.self.inside.lens.entries c.self.inside.text.items c.args.self.now is c.in-Some.index c.in-Some.len.now at c.len-count.result (length c.as_slice-text.result.now) c.len-count.ensures.len (ap (λ (t : List ℕ). length t) c.as_slice-text.ensures.value) in
+    ap full (sym (c.passes_limit.ensures ∙ over) ∙ c.if-passes_limit.false)
 
-pub returns-in_ok-set_value-in-Some-clause-ok : goal.returns-in_ok-set_value-in-Some-clause-ok
-returns-in_ok-set_value-in-Some-clause-ok c =
-    put_held c.args.name.now c.args.value.now c.in-Some.held.now c.self.inside.pairs.entries c.args.self.now _ _ (sym c.in-Some.ensures.value) c.self.invariant.0 c.self.view_is c.value_len.ensures
-    _ c.set_value.new.self (c.get_mut.follows.holds c.set_value.new.self).0 (ap (λ (p : Cookie). p.value) c.in_ok-set_value-in-Some.ensures.ok)
+pub returns-in_ok-splice-in-Some-clause-ok : goal.returns-in_ok-splice-in-Some-clause-ok
+returns-in_ok-splice-in-Some-clause-ok c =
+    let is = stands _ c.args.self.now c.self.inside.lens.entries c.self.inside.text.items c.self.view_is c.self.invariant in
+    let at = found_at c.args.name.now c.in-Some.len.now c.self.inside.lens.entries c.in-Some.index c.in-Some.ensures.index c.in-Some.ensures.value in
+    let over = over_held c.args.name.now c.args.value.now c.self.inside.lens.entries c.self.inside.text.items c.args.self.now is c.in-Some.index c.in-Some.len.now at c.len-count.result (length c.as_slice-text.result.now) c.len-count.ensures.len (ap (λ (t : List ℕ). length t) c.as_slice-text.ensures.value) in
+    let text : c.swap.new.x.items ≡ take (value_at c.self.inside.lens.entries c.in-Some.index) c.self.inside.text.items ++ c.args.value.now
+    ++ drop (value_at c.self.inside.lens.entries c.in-Some.index + c.in-Some.len.now) c.self.inside.text.items =
+    ap (λ (v : Vec ℕ). v.items) c.swap.ensures.x_after ∙ c.in_ok-splice-in-Some.ensures
+    ∙ ap (λ n. take n c.as_slice-text.result.now ++ c.args.value.now ++ drop (n + c.in-Some.len.now) c.as_slice-text.result.now) c.value_at-at.ensures
+    ∙ ap (λ t. take (value_at c.self.inside.lens.entries c.in-Some.index) t ++ c.args.value.now ++ drop (value_at c.self.inside.lens.entries c.in-Some.index + c.in-Some.len.now) t) c.as_slice-text.ensures.value in
+    let made = jar_held c.args.name.now c.args.value.now c.self.inside.lens.entries c.self.inside.text.items c.args.self.now is c.in-Some.index c.in-Some.len.now at c.swap.new.x.items text (sym over ∙ sym c.passes_limit.ensures ∙ c.if-passes_limit.false) in
+    jar_is _ _ _ made
 
 -- a new cookie
 
 pub invariant_of-self-in-None : goal.invariant_of-self-in-None
 invariant_of-self-in-None c =
-    let sum = sum_new c.args.name.now c.args.value.now c.self.inside.pairs.entries c.args.self.now _ c.self.invariant.0 c.self.view_is (sym c.in-None.ensures.value) in
-    let pair = c.in_ok-pair-in-None.pair in
-    let is = put_new c.args.name.now c.args.value.now c.self.inside.pairs.entries c.args.self.now _ c.self.invariant.0 c.self.view_is
-    _ _ c.in_ok-from_slice-in-None.field-0 pair (λ j. (c.get_mut.follows.holds-at-none j).entries) c.in_ok-insert-in-None.ensures.entries c.in_ok-from_slice-in-None.ensures.items (ap (λ (p : Cookie). p.value) c.in_ok-pair-in-None.ensures) in
-    let P : List (Vec ℕ × Cookie) → Type 0 = AreNamed in
-    let key = c.in_ok-from_slice-in-None.field-0 in
-    let named : pair.name ≡ key.items = ap (λ (p : Cookie). p.name) c.in_ok-pair-in-None.ensures ∙ sym c.in_ok-from_slice-in-None.ensures.items in (
-      sum ∙ ap jar_bytes (sym is),
-      ap is_over is ∙ sym (c.passes_limit-in-None.ensures ∙ over_new c.args.name.now c.args.value.now c.self.inside.pairs.entries c.args.self.now _ c.self.invariant.0 c.self.view_is _ (sym c.in-None.ensures.value) c.len-count.ensures.len) ∙ c.if-passes_limit-2.false,
-      subst P (sym c.in_ok-insert-in-None.ensures.entries) (names-insert_entry key pair _ named (subst P (sym (λ j. (c.get_mut.follows.holds-at-none j).entries)) c.self.invariant.2)),
-    )
+    let is = stands _ c.args.self.now c.self.inside.lens.entries c.self.inside.text.items c.self.view_is c.self.invariant in
+    let over = over_new c.args.name.now c.args.value.now c.self.inside.lens.entries c.self.inside.text.items c.args.self.now is (sym c.in-None.ensures.value) c.len-count.result (length c.as_slice-text.result.now) c.len-count.ensures.len (ap (λ (t : List ℕ). length t) c.as_slice-text.ensures.value) in
+    let text : c.swap-in-None.new.x.items ≡ c.self.inside.text.items ++ front c.args.name.now ++ c.args.value.now =
+    ap (λ (v : Vec ℕ). v.items) c.swap-in-None.ensures.x_after ∙ c.in_ok-append-in-None.ensures ∙ ap (λ t. t ++ front c.args.name.now ++ c.args.value.now) c.as_slice-text.ensures.value in
+    let made = jar_new c.args.name.now c.args.value.now c.self.inside.lens.entries c.self.inside.text.items c.args.self.now is (sym c.in-None.ensures.value) c.in_ok-from_slice-in-None.field-0 c.swap-in-None.new.x.items c.in_ok-from_slice-in-None.ensures.items text (sym over ∙ sym c.passes_limit-in-None.ensures ∙ c.if-passes_limit-2.false) in
+    let P : List (Vec ℕ × ℕ) → Type 0 = λ entries. IsJar entries c.swap-in-None.new.x.items (put (record { name = c.args.name.now; value = c.args.value.now }) c.args.self.now) in
+    let whole = subst P (sym c.in_ok-insert-in-None.ensures.entries) made in
+    is_jar _ _ _ whole
 
 pub returns-in_ok-insert-in-None-clause-answer : goal.returns-in_ok-insert-in-None-clause-answer
 unfolding full
 returns-in_ok-insert-in-None-clause-answer c =
-    ap full (sym (c.passes_limit-in-None.ensures ∙ over_new c.args.name.now c.args.value.now c.self.inside.pairs.entries c.args.self.now _ c.self.invariant.0 c.self.view_is _ (sym c.in-None.ensures.value) c.len-count.ensures.len) ∙ c.if-passes_limit-2.false)
+    let is = stands _ c.args.self.now c.self.inside.lens.entries c.self.inside.text.items c.self.view_is c.self.invariant in
+    let over = over_new c.args.name.now c.args.value.now c.self.inside.lens.entries c.self.inside.text.items c.args.self.now is (sym c.in-None.ensures.value) c.len-count.result (length c.as_slice-text.result.now) c.len-count.ensures.len (ap (λ (t : List ℕ). length t) c.as_slice-text.ensures.value) in
+    ap full (sym (c.passes_limit-in-None.ensures ∙ over) ∙ c.if-passes_limit-2.false)
 
 pub returns-in_ok-insert-in-None-clause-ok : goal.returns-in_ok-insert-in-None-clause-ok
 returns-in_ok-insert-in-None-clause-ok c =
-    put_new c.args.name.now c.args.value.now c.self.inside.pairs.entries c.args.self.now _ c.self.invariant.0 c.self.view_is
-    _ _ c.in_ok-from_slice-in-None.field-0 c.in_ok-pair-in-None.pair (λ j. (c.get_mut.follows.holds-at-none j).entries) c.in_ok-insert-in-None.ensures.entries c.in_ok-from_slice-in-None.ensures.items (ap (λ (p : Cookie). p.value) c.in_ok-pair-in-None.ensures)
+    let is = stands _ c.args.self.now c.self.inside.lens.entries c.self.inside.text.items c.self.view_is c.self.invariant in
+    let over = over_new c.args.name.now c.args.value.now c.self.inside.lens.entries c.self.inside.text.items c.args.self.now is (sym c.in-None.ensures.value) c.len-count.result (length c.as_slice-text.result.now) c.len-count.ensures.len (ap (λ (t : List ℕ). length t) c.as_slice-text.ensures.value) in
+    let text : c.swap-in-None.new.x.items ≡ c.self.inside.text.items ++ front c.args.name.now ++ c.args.value.now =
+    ap (λ (v : Vec ℕ). v.items) c.swap-in-None.ensures.x_after ∙ c.in_ok-append-in-None.ensures ∙ ap (λ t. t ++ front c.args.name.now ++ c.args.value.now) c.as_slice-text.ensures.value in
+    let made = jar_new c.args.name.now c.args.value.now c.self.inside.lens.entries c.self.inside.text.items c.args.self.now is (sym c.in-None.ensures.value) c.in_ok-from_slice-in-None.field-0 c.swap-in-None.new.x.items c.in_ok-from_slice-in-None.ensures.items text (sym over ∙ sym c.passes_limit-in-None.ensures ∙ c.if-passes_limit-2.false) in
+    let P : List (Vec ℕ × ℕ) → Type 0 = λ entries. IsJar entries c.swap-in-None.new.x.items (put (record { name = c.args.name.now; value = c.args.value.now }) c.args.self.now) in
+    let whole = subst P (sym c.in_ok-insert-in-None.ensures.entries) made in
+    jar_is _ _ _ whole

@@ -1,19 +1,21 @@
-use Rattle.std.proofs.Common.{◌≡◌, ◌∙◌, ap, List, ℕ, sym, subst, arith}
-use Rattle.std.specs.Global.{Vec}
-use Rattle.ibos_kinds.specs.declared.cookies.Cookie.{Cookie}
-use Rattle.ibos_cookie.specs.Jars.{AreNamed, named_cookies}
-use Rattle.ibos_cookie.proofs.Putting.{all_joined, all_joined-jar_text, bytes_within}
+use Rattle.std.proofs.Common.{◌≡◌, ◌<◌, ◌-◌, List, ℕ, length, take, drop, ap, subst, ◌∙◌, arith}
+use Rattle.std.specs.Prelude.{IfOk}
+use Rattle.std.proofs.lemmas.List.{take_rest}
+use Rattle.ibos_kinds.specs.Cookies.{jar_text}
+use Rattle.ibos_cookie.specs.Lines.{lines}
+use Rattle.ibos_cookie.proofs.Lines.{pairs_text, no_text}
 use Rattle.ibos_cookie.proofs.jar.Jar.text.Goals as goal
 
-pub loop-name-init : goal.loop-name-init
-loop-name-init c =
-    let pairs = named_cookies c.into_iter-name-iterator.result in
-    let P : List (Vec ℕ × Cookie) → Type 0 = AreNamed in
-    let from : c.into_iter-name-iterator.result ≡ c.self.inside.pairs.entries = c.into_iter-name-iterator.ensures.into_iter_gives.0 in
-    record {
-      text = ap (λ (text : List ℕ). all_joined text pairs) (c.reserve.ensures ∙ c.new-text.ensures) ∙ all_joined-jar_text pairs;
-      named = subst P (sym from) c.self.invariant.2;
-    }
+pub returns-in_default : goal.returns-in_default
+returns-in_default c =
+    let is : c.as_slice.result.now ≡ lines c.args.self.now = c.as_slice.ensures.value ∙ c.self.invariant.text_is ∙ ap lines c.self.view_is in
+    let short : length (lines c.args.self.now) < 2 = omega (arith, c.in_default.len_below, ap (λ (t : List ℕ). length t) is) in
+    c.new.ensures ∙ no_text c.args.self.now short
 
-pub overflow_add-self-inside : goal.overflow_add-self-inside
-overflow_add-self-inside c = let within = bytes_within _ c.self.invariant.1 in omega (arith, within, c.self.invariant.0)
+pub returns-in-len2-up : goal.returns-in-len2-up
+returns-in-len2-up c =
+    let is : c.as_slice.result.now ≡ lines c.args.self.now = c.as_slice.ensures.value ∙ c.self.invariant.text_is ∙ ap lines c.self.view_is in
+    let rest : take (length c.as_slice.result.now - 2) (drop 2 c.as_slice.result.now) ≡ jar_text c.args.self.now =
+    take_rest c.as_slice.result.now 2 ∙ ap (drop 2) is ∙ pairs_text c.args.self.now in
+    let P : List ℕ → Type 0 = λ t. IfOk c.from_slice.result (λ made. made ≡ t) in
+    subst P rest c.from_slice.ensures

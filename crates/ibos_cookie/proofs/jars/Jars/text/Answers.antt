@@ -3,7 +3,7 @@ use Rattle.std.specs.Prelude.{IfOk}
 use Rattle.ibos_kinds.specs.declared.cookies.Cookie.{Cookie}
 use Rattle.ibos_kinds.specs.Cookies.{jar_text}
 use Rattle.ibos_cookie.proofs.Finding.{jar_found}
-use Rattle.ibos_cookie.proofs.Putting.{all_joined-jar_text}
+use Rattle.ibos_cookie.proofs.Lines.{pairs_text}
 use Rattle.ibos_cookie.proofs.jars.Jars.text.Goals as goal
 
 pub returns-in-Some : goal.returns-in-Some
@@ -13,4 +13,4 @@ returns-in-Some c =
     subst P own c.text.ensures
 
 pub returns-in-None : goal.returns-in-None
-returns-in-None c = c.new.ensures ∙ all_joined-jar_text [] ∙ ap jar_text (jar_found c.args.origin.now c.self.inside.jars.entries c.args.self.now None c.in-None.ensures.value c.self.view_is)
+returns-in-None c = c.new.ensures ∙ pairs_text [] ∙ ap jar_text (jar_found c.args.origin.now c.self.inside.jars.entries c.args.self.now None c.in-None.ensures.value c.self.view_is)
