@@ -1,3 +1,4 @@
 pub mod Jars
 pub mod Faults
 pub mod Lines
+pub mod Hash

@@ -6,11 +6,13 @@ ghost use Rattle.ibos_cookie.specs.Lines.{front, table_len};
 ghost use Rattle.ibos_cookie.specs.Lines as spec;
 ghost use Rattle.ibos_cookie.specs.Faults.{Answers, full_rule};
 
+use crate::hash::TextHasher;
 use crate::jars::CookieFault;
 use crate::texts::{is_token, is_value, split_cookie};
 use ibos_kinds::{Bytes, Memory, Rule};
 use indexmap::IndexMap;
 use std::alloc::Global;
+use std::hash::BuildHasherDefault;
 use std::marker::Model;
 use std::mem::swap;
 
@@ -21,12 +23,14 @@ const MAX_BYTES: usize = 4096;
 // What a cookie's line has beside its name and its value: `; ` and `=`.
 const MARKS: usize = 3;
 
+// How many bytes each value has, by its name.
+type Lens = IndexMap<Vec<u8>, usize, BuildHasherDefault<TextHasher>>;
+
 /// The cookies of one origin, in the order in which their names were first set. They are kept as
 /// one text, so that reading them is one copy.
 #[derive(Drop)]
 pub struct Jar {
-    // How many bytes each value has, by its name.
-    lens: IndexMap<Vec<u8>, usize>,
+    lens: Lens,
     // Each cookie as `; name=value`.
     text: Vec<u8>,
     // Room in which the text of the next set is made.
@@ -52,7 +56,7 @@ impl Jar {
         ensures { result ≡ [] }
     {
         Jar {
-            lens: IndexMap::new(alloc),
+            lens: IndexMap::with_hasher(alloc, BuildHasherDefault::new()),
             text: Vec::new(alloc),
             room: Vec::new(alloc),
         }
@@ -136,7 +140,7 @@ fn passes_limit(count: usize, bytes: usize, name_len: usize, value_len: usize) -
 }
 
 // Where the value of a cookie begins in the text of its jar.
-fn value_at(lens: &IndexMap<Vec<u8>, usize>, index: usize) -> usize
+fn value_at(lens: &Lens, index: usize) -> usize
     requires small { table_len lens.now.entries < 2 ^ 63 }
     requires index { index < length lens.now.entries }
     ensures { result ≡ spec.value_at lens.now.entries index }

@@ -2,10 +2,12 @@
 ghost use Rattle.std.specs.Prelude.{◌≡◌, [], IfOk, OnOk, OnErr};
 ghost use Rattle.ibos_kinds.specs.Cookies.{cookie_in, set_breaks, jar_text};
 
+use crate::hash::TextHasher;
 use crate::jar::Jar;
 use ibos_kinds::{Bytes, Memory, Rule};
 use indexmap::IndexMap;
 use std::alloc::{AllocError, AllocFailed, Global};
+use std::hash::BuildHasherDefault;
 use std::marker::Model;
 
 /// Why a set is refused.
@@ -50,7 +52,7 @@ impl From<Memory> for CookieFault {
 #[derive(Drop)]
 pub struct Jars {
     alloc: Global,
-    jars: IndexMap<Vec<u8>, Jar>,
+    jars: IndexMap<Vec<u8>, Jar, BuildHasherDefault<TextHasher>>,
 }
 
 impl Model for Jars {
@@ -72,7 +74,7 @@ impl Jars {
     {
         Jars {
             alloc,
-            jars: IndexMap::new(alloc),
+            jars: IndexMap::with_hasher(alloc, BuildHasherDefault::new()),
         }
     }
 

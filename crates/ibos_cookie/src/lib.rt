@@ -1,6 +1,7 @@
 //! Cookie jars, one for each origin.
 #![tactic(auto)]
 
+mod hash;
 mod jar;
 mod jars;
 mod texts;

@@ -7,4 +7,4 @@ use Rattle.ibos_cookie.proofs.jar.Jar.new.Goals as goal
 pub invariant_of-result : goal.invariant_of-result
 invariant_of-result c =
     let P : List (Vec ℕ × ℕ) → Type 0 = λ entries. IsJar entries c.new-2.result.items (cookies_in entries c.new-2.result.items) in
-    subst P (sym c.new.ensures.empty) (record { measured = tt; text_is = c.new-2.ensures.items; within = none_within })
+    subst P (sym c.with_hasher.ensures.empty) (record { measured = tt; text_is = c.new-2.ensures.items; within = none_within })

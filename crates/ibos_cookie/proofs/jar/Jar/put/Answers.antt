@@ -12,6 +12,9 @@ use Rattle.ibos_cookie.proofs.jar.Jar.put.Goals as goal
 full : Bool → Option Rule
 full over = if over then Some C3 else None
 
+lens : (s t : List ℕ) → s ≡ t → length s ≡ length t
+lens s t same = ap (λ (u : List ℕ). length u) same
+
 -- the jar as its caller sees it
 stands : (view jar : List Cookie) (entries : List (Vec ℕ × ℕ)) (text : List ℕ) → view ≡ jar → IsJar entries text view → IsJar entries text jar
 stands view jar entries text seen is =
@@ -20,46 +23,46 @@ stands view jar entries text seen is =
 
 pub overflow_mul-bytes : goal.overflow_mul-bytes
 overflow_mul-bytes c =
-    let is = stands _ c.args.self.now c.self.inside.lens.entries c.self.inside.text.items c.self.view_is c.self.invariant in
-    let size = sizes c.args.name.now c.args.value.now c.self.inside.lens.entries c.self.inside.text.items c.args.self.now is c.len-count.result (length c.as_slice-text.result.now) c.len-count.ensures.len (ap (λ (t : List ℕ). length t) c.as_slice-text.ensures.value) in
+    let is = stands _ _ _ _ c.self.view_is c.self.invariant in
+    let size = sizes c.args.name.now c.args.value.now _ _ _ is _ _ c.len-count.ensures.len (lens _ _ c.as_slice-text.ensures.value) in
     omega (arith, size.few)
 
 pub overflow_sub-bytes : goal.overflow_sub-bytes
 overflow_sub-bytes c =
-    let is = stands _ c.args.self.now c.self.inside.lens.entries c.self.inside.text.items c.self.view_is c.self.invariant in
-    let size = sizes c.args.name.now c.args.value.now c.self.inside.lens.entries c.self.inside.text.items c.args.self.now is c.len-count.result (length c.as_slice-text.result.now) c.len-count.ensures.len (ap (λ (t : List ℕ). length t) c.as_slice-text.ensures.value) in
+    let is = stands _ _ _ _ c.self.view_is c.self.invariant in
+    let size = sizes c.args.name.now c.args.value.now _ _ _ is _ _ c.len-count.ensures.len (lens _ _ c.as_slice-text.ensures.value) in
     size.marks
 
 pub overflow_sub-bytes-in-Some : goal.overflow_sub-bytes-in-Some
 overflow_sub-bytes-in-Some c =
-    let is = stands _ c.args.self.now c.self.inside.lens.entries c.self.inside.text.items c.self.view_is c.self.invariant in
-    let at = found_at c.args.name.now c.in-Some.len.now c.self.inside.lens.entries c.in-Some.index c.in-Some.ensures.index c.in-Some.ensures.value in
-    let within = held_within c.args.name.now c.args.value.now c.self.inside.lens.entries c.self.inside.text.items c.args.self.now is c.in-Some.index c.in-Some.len.now at c.len-count.result (length c.as_slice-text.result.now) c.len-count.ensures.len (ap (λ (t : List ℕ). length t) c.as_slice-text.ensures.value) in
+    let is = stands _ _ _ _ c.self.view_is c.self.invariant in
+    let at = found_at c.args.name.now _ _ _ c.in-Some.ensures.index c.in-Some.ensures.value in
+    let within = held_within c.args.name.now c.args.value.now _ _ _ is _ _ at _ _ c.len-count.ensures.len (lens _ _ c.as_slice-text.ensures.value) in
     within
 
 pub passes_limit-requires : goal.passes_limit-requires
 passes_limit-requires c =
-    let is = stands _ c.args.self.now c.self.inside.lens.entries c.self.inside.text.items c.self.view_is c.self.invariant in
-    let size = sizes c.args.name.now c.args.value.now c.self.inside.lens.entries c.self.inside.text.items c.args.self.now is c.len-count.result (length c.as_slice-text.result.now) c.len-count.ensures.len (ap (λ (t : List ℕ). length t) c.as_slice-text.ensures.value) in
+    let is = stands _ _ _ _ c.self.view_is c.self.invariant in
+    let size = sizes c.args.name.now c.args.value.now _ _ _ is _ _ c.len-count.ensures.len (lens _ _ c.as_slice-text.ensures.value) in
     omega (arith, size.within)
 
 pub passes_limit-requires-in-None : goal.passes_limit-requires-in-None
 passes_limit-requires-in-None c =
-    let is = stands _ c.args.self.now c.self.inside.lens.entries c.self.inside.text.items c.self.view_is c.self.invariant in
-    let size = sizes c.args.name.now c.args.value.now c.self.inside.lens.entries c.self.inside.text.items c.args.self.now is c.len-count.result (length c.as_slice-text.result.now) c.len-count.ensures.len (ap (λ (t : List ℕ). length t) c.as_slice-text.ensures.value) in
+    let is = stands _ _ _ _ c.self.view_is c.self.invariant in
+    let size = sizes c.args.name.now c.args.value.now _ _ _ is _ _ c.len-count.ensures.len (lens _ _ c.as_slice-text.ensures.value) in
     size.within
 
 pub value_at-at-requires-clause-small : goal.value_at-at-requires-clause-small
 value_at-at-requires-clause-small c =
-    let is = stands _ c.args.self.now c.self.inside.lens.entries c.self.inside.text.items c.self.view_is c.self.invariant in
-    let size = sizes c.args.name.now c.args.value.now c.self.inside.lens.entries c.self.inside.text.items c.args.self.now is c.len-count.result (length c.as_slice-text.result.now) c.len-count.ensures.len (ap (λ (t : List ℕ). length t) c.as_slice-text.ensures.value) in
+    let is = stands _ _ _ _ c.self.view_is c.self.invariant in
+    let size = sizes c.args.name.now c.args.value.now _ _ _ is _ _ c.len-count.ensures.len (lens _ _ c.as_slice-text.ensures.value) in
     size.small
 
 pub splice-requires : goal.splice-requires
 splice-requires c =
-    let is = stands _ c.args.self.now c.self.inside.lens.entries c.self.inside.text.items c.self.view_is c.self.invariant in
-    let at = found_at c.args.name.now c.in-Some.len.now c.self.inside.lens.entries c.in-Some.index c.in-Some.ensures.index c.in-Some.ensures.value in
-    let within = place_within c.args.name.now c.args.value.now c.self.inside.lens.entries c.self.inside.text.items c.args.self.now is c.in-Some.index c.in-Some.len.now at in
+    let is = stands _ _ _ _ c.self.view_is c.self.invariant in
+    let at = found_at c.args.name.now _ _ _ c.in-Some.ensures.index c.in-Some.ensures.value in
+    let within = place_within c.args.name.now c.args.value.now _ _ _ is _ _ at in
     omega (arith, within, c.value_at-at.ensures, ap (λ (t : List ℕ). length t) c.as_slice-text.ensures.value)
 
 -- the jar would pass a limit
@@ -67,63 +70,63 @@ splice-requires c =
 pub returns-then-passes_limit-clause-answer : goal.returns-then-passes_limit-clause-answer
 unfolding full
 returns-then-passes_limit-clause-answer c =
-    let is = stands _ c.args.self.now c.self.inside.lens.entries c.self.inside.text.items c.self.view_is c.self.invariant in
-    let at = found_at c.args.name.now c.in-Some.len.now c.self.inside.lens.entries c.in-Some.index c.in-Some.ensures.index c.in-Some.ensures.value in
-    let over = over_held c.args.name.now c.args.value.now c.self.inside.lens.entries c.self.inside.text.items c.args.self.now is c.in-Some.index c.in-Some.len.now at c.len-count.result (length c.as_slice-text.result.now) c.len-count.ensures.len (ap (λ (t : List ℕ). length t) c.as_slice-text.ensures.value) in
+    let is = stands _ _ _ _ c.self.view_is c.self.invariant in
+    let at = found_at c.args.name.now _ _ _ c.in-Some.ensures.index c.in-Some.ensures.value in
+    let over = over_held c.args.name.now c.args.value.now _ _ _ is _ _ at _ _ c.len-count.ensures.len (lens _ _ c.as_slice-text.ensures.value) in
     ap full (sym (c.passes_limit.ensures ∙ over) ∙ c.if-passes_limit.true)
 
 pub returns-then-passes_limit-2-clause-answer : goal.returns-then-passes_limit-2-clause-answer
 unfolding full
 returns-then-passes_limit-2-clause-answer c =
-    let is = stands _ c.args.self.now c.self.inside.lens.entries c.self.inside.text.items c.self.view_is c.self.invariant in
-    let over = over_new c.args.name.now c.args.value.now c.self.inside.lens.entries c.self.inside.text.items c.args.self.now is (sym c.in-None.ensures.value) c.len-count.result (length c.as_slice-text.result.now) c.len-count.ensures.len (ap (λ (t : List ℕ). length t) c.as_slice-text.ensures.value) in
+    let is = stands _ _ _ _ c.self.view_is c.self.invariant in
+    let over = over_new c.args.name.now c.args.value.now _ _ _ is (sym c.in-None.ensures.value) _ _ c.len-count.ensures.len (lens _ _ c.as_slice-text.ensures.value) in
     ap full (sym (c.passes_limit-in-None.ensures ∙ over) ∙ c.if-passes_limit-2.true)
 
 -- another value
 
 pub invariant_of-self-in-Some : goal.invariant_of-self-in-Some
 invariant_of-self-in-Some c =
-    let is = stands _ c.args.self.now c.self.inside.lens.entries c.self.inside.text.items c.self.view_is c.self.invariant in
-    let at = found_at c.args.name.now c.in-Some.len.now c.self.inside.lens.entries c.in-Some.index c.in-Some.ensures.index c.in-Some.ensures.value in
-    let over = over_held c.args.name.now c.args.value.now c.self.inside.lens.entries c.self.inside.text.items c.args.self.now is c.in-Some.index c.in-Some.len.now at c.len-count.result (length c.as_slice-text.result.now) c.len-count.ensures.len (ap (λ (t : List ℕ). length t) c.as_slice-text.ensures.value) in
+    let is = stands _ _ _ _ c.self.view_is c.self.invariant in
+    let at = found_at c.args.name.now _ _ _ c.in-Some.ensures.index c.in-Some.ensures.value in
+    let over = over_held c.args.name.now c.args.value.now _ _ _ is _ _ at _ _ c.len-count.ensures.len (lens _ _ c.as_slice-text.ensures.value) in
     let text : c.swap.new.x.items ≡ take (value_at c.self.inside.lens.entries c.in-Some.index) c.self.inside.text.items ++ c.args.value.now
     ++ drop (value_at c.self.inside.lens.entries c.in-Some.index + c.in-Some.len.now) c.self.inside.text.items =
     ap (λ (v : Vec ℕ). v.items) c.swap.ensures.x_after ∙ c.in_ok-splice-in-Some.ensures
     ∙ ap (λ n. take n c.as_slice-text.result.now ++ c.args.value.now ++ drop (n + c.in-Some.len.now) c.as_slice-text.result.now) c.value_at-at.ensures
     ∙ ap (λ t. take (value_at c.self.inside.lens.entries c.in-Some.index) t ++ c.args.value.now ++ drop (value_at c.self.inside.lens.entries c.in-Some.index + c.in-Some.len.now) t) c.as_slice-text.ensures.value in
-    let made = jar_held c.args.name.now c.args.value.now c.self.inside.lens.entries c.self.inside.text.items c.args.self.now is c.in-Some.index c.in-Some.len.now at c.swap.new.x.items text (sym over ∙ sym c.passes_limit.ensures ∙ c.if-passes_limit.false) in
+    let made = jar_held c.args.name.now c.args.value.now _ _ _ is _ _ at c.swap.new.x.items text (sym over ∙ sym c.passes_limit.ensures ∙ c.if-passes_limit.false) in
     is_jar _ _ _ made
 
 pub returns-in_ok-splice-in-Some-clause-answer : goal.returns-in_ok-splice-in-Some-clause-answer
 unfolding full
 returns-in_ok-splice-in-Some-clause-answer c =
-    let is = stands _ c.args.self.now c.self.inside.lens.entries c.self.inside.text.items c.self.view_is c.self.invariant in
-    let at = found_at c.args.name.now c.in-Some.len.now c.self.inside.lens.entries c.in-Some.index c.in-Some.ensures.index c.in-Some.ensures.value in
-    let over = over_held c.args.name.now c.args.value.now c.self.inside.lens.entries c.self.inside.text.items c.args.self.now is c.in-Some.index c.in-Some.len.now at c.len-count.result (length c.as_slice-text.result.now) c.len-count.ensures.len (ap (λ (t : List ℕ). length t) c.as_slice-text.ensures.value) in
+    let is = stands _ _ _ _ c.self.view_is c.self.invariant in
+    let at = found_at c.args.name.now _ _ _ c.in-Some.ensures.index c.in-Some.ensures.value in
+    let over = over_held c.args.name.now c.args.value.now _ _ _ is _ _ at _ _ c.len-count.ensures.len (lens _ _ c.as_slice-text.ensures.value) in
     ap full (sym (c.passes_limit.ensures ∙ over) ∙ c.if-passes_limit.false)
 
 pub returns-in_ok-splice-in-Some-clause-ok : goal.returns-in_ok-splice-in-Some-clause-ok
 returns-in_ok-splice-in-Some-clause-ok c =
-    let is = stands _ c.args.self.now c.self.inside.lens.entries c.self.inside.text.items c.self.view_is c.self.invariant in
-    let at = found_at c.args.name.now c.in-Some.len.now c.self.inside.lens.entries c.in-Some.index c.in-Some.ensures.index c.in-Some.ensures.value in
-    let over = over_held c.args.name.now c.args.value.now c.self.inside.lens.entries c.self.inside.text.items c.args.self.now is c.in-Some.index c.in-Some.len.now at c.len-count.result (length c.as_slice-text.result.now) c.len-count.ensures.len (ap (λ (t : List ℕ). length t) c.as_slice-text.ensures.value) in
+    let is = stands _ _ _ _ c.self.view_is c.self.invariant in
+    let at = found_at c.args.name.now _ _ _ c.in-Some.ensures.index c.in-Some.ensures.value in
+    let over = over_held c.args.name.now c.args.value.now _ _ _ is _ _ at _ _ c.len-count.ensures.len (lens _ _ c.as_slice-text.ensures.value) in
     let text : c.swap.new.x.items ≡ take (value_at c.self.inside.lens.entries c.in-Some.index) c.self.inside.text.items ++ c.args.value.now
     ++ drop (value_at c.self.inside.lens.entries c.in-Some.index + c.in-Some.len.now) c.self.inside.text.items =
     ap (λ (v : Vec ℕ). v.items) c.swap.ensures.x_after ∙ c.in_ok-splice-in-Some.ensures
     ∙ ap (λ n. take n c.as_slice-text.result.now ++ c.args.value.now ++ drop (n + c.in-Some.len.now) c.as_slice-text.result.now) c.value_at-at.ensures
     ∙ ap (λ t. take (value_at c.self.inside.lens.entries c.in-Some.index) t ++ c.args.value.now ++ drop (value_at c.self.inside.lens.entries c.in-Some.index + c.in-Some.len.now) t) c.as_slice-text.ensures.value in
-    let made = jar_held c.args.name.now c.args.value.now c.self.inside.lens.entries c.self.inside.text.items c.args.self.now is c.in-Some.index c.in-Some.len.now at c.swap.new.x.items text (sym over ∙ sym c.passes_limit.ensures ∙ c.if-passes_limit.false) in
+    let made = jar_held c.args.name.now c.args.value.now _ _ _ is _ _ at c.swap.new.x.items text (sym over ∙ sym c.passes_limit.ensures ∙ c.if-passes_limit.false) in
     jar_is _ _ _ made
 
 -- a new cookie
 
 pub invariant_of-self-in-None : goal.invariant_of-self-in-None
 invariant_of-self-in-None c =
-    let is = stands _ c.args.self.now c.self.inside.lens.entries c.self.inside.text.items c.self.view_is c.self.invariant in
-    let over = over_new c.args.name.now c.args.value.now c.self.inside.lens.entries c.self.inside.text.items c.args.self.now is (sym c.in-None.ensures.value) c.len-count.result (length c.as_slice-text.result.now) c.len-count.ensures.len (ap (λ (t : List ℕ). length t) c.as_slice-text.ensures.value) in
+    let is = stands _ _ _ _ c.self.view_is c.self.invariant in
+    let over = over_new c.args.name.now c.args.value.now _ _ _ is (sym c.in-None.ensures.value) _ _ c.len-count.ensures.len (lens _ _ c.as_slice-text.ensures.value) in
     let text : c.swap-in-None.new.x.items ≡ c.self.inside.text.items ++ front c.args.name.now ++ c.args.value.now =
     ap (λ (v : Vec ℕ). v.items) c.swap-in-None.ensures.x_after ∙ c.in_ok-append-in-None.ensures ∙ ap (λ t. t ++ front c.args.name.now ++ c.args.value.now) c.as_slice-text.ensures.value in
-    let made = jar_new c.args.name.now c.args.value.now c.self.inside.lens.entries c.self.inside.text.items c.args.self.now is (sym c.in-None.ensures.value) c.in_ok-from_slice-in-None.field-0 c.swap-in-None.new.x.items c.in_ok-from_slice-in-None.ensures.items text (sym over ∙ sym c.passes_limit-in-None.ensures ∙ c.if-passes_limit-2.false) in
+    let made = jar_new c.args.name.now c.args.value.now _ _ _ is (sym c.in-None.ensures.value) c.in_ok-from_slice-in-None.field-0 c.swap-in-None.new.x.items c.in_ok-from_slice-in-None.ensures.items text (sym over ∙ sym c.passes_limit-in-None.ensures ∙ c.if-passes_limit-2.false) in
     let P : List (Vec ℕ × ℕ) → Type 0 = λ entries. IsJar entries c.swap-in-None.new.x.items (put (record { name = c.args.name.now; value = c.args.value.now }) c.args.self.now) in
     let whole = subst P (sym c.in_ok-insert-in-None.ensures.entries) made in
     is_jar _ _ _ whole
@@ -131,17 +134,17 @@ invariant_of-self-in-None c =
 pub returns-in_ok-insert-in-None-clause-answer : goal.returns-in_ok-insert-in-None-clause-answer
 unfolding full
 returns-in_ok-insert-in-None-clause-answer c =
-    let is = stands _ c.args.self.now c.self.inside.lens.entries c.self.inside.text.items c.self.view_is c.self.invariant in
-    let over = over_new c.args.name.now c.args.value.now c.self.inside.lens.entries c.self.inside.text.items c.args.self.now is (sym c.in-None.ensures.value) c.len-count.result (length c.as_slice-text.result.now) c.len-count.ensures.len (ap (λ (t : List ℕ). length t) c.as_slice-text.ensures.value) in
+    let is = stands _ _ _ _ c.self.view_is c.self.invariant in
+    let over = over_new c.args.name.now c.args.value.now _ _ _ is (sym c.in-None.ensures.value) _ _ c.len-count.ensures.len (lens _ _ c.as_slice-text.ensures.value) in
     ap full (sym (c.passes_limit-in-None.ensures ∙ over) ∙ c.if-passes_limit-2.false)
 
 pub returns-in_ok-insert-in-None-clause-ok : goal.returns-in_ok-insert-in-None-clause-ok
 returns-in_ok-insert-in-None-clause-ok c =
-    let is = stands _ c.args.self.now c.self.inside.lens.entries c.self.inside.text.items c.self.view_is c.self.invariant in
-    let over = over_new c.args.name.now c.args.value.now c.self.inside.lens.entries c.self.inside.text.items c.args.self.now is (sym c.in-None.ensures.value) c.len-count.result (length c.as_slice-text.result.now) c.len-count.ensures.len (ap (λ (t : List ℕ). length t) c.as_slice-text.ensures.value) in
+    let is = stands _ _ _ _ c.self.view_is c.self.invariant in
+    let over = over_new c.args.name.now c.args.value.now _ _ _ is (sym c.in-None.ensures.value) _ _ c.len-count.ensures.len (lens _ _ c.as_slice-text.ensures.value) in
     let text : c.swap-in-None.new.x.items ≡ c.self.inside.text.items ++ front c.args.name.now ++ c.args.value.now =
     ap (λ (v : Vec ℕ). v.items) c.swap-in-None.ensures.x_after ∙ c.in_ok-append-in-None.ensures ∙ ap (λ t. t ++ front c.args.name.now ++ c.args.value.now) c.as_slice-text.ensures.value in
-    let made = jar_new c.args.name.now c.args.value.now c.self.inside.lens.entries c.self.inside.text.items c.args.self.now is (sym c.in-None.ensures.value) c.in_ok-from_slice-in-None.field-0 c.swap-in-None.new.x.items c.in_ok-from_slice-in-None.ensures.items text (sym over ∙ sym c.passes_limit-in-None.ensures ∙ c.if-passes_limit-2.false) in
+    let made = jar_new c.args.name.now c.args.value.now _ _ _ is (sym c.in-None.ensures.value) c.in_ok-from_slice-in-None.field-0 c.swap-in-None.new.x.items c.in_ok-from_slice-in-None.ensures.items text (sym over ∙ sym c.passes_limit-in-None.ensures ∙ c.if-passes_limit-2.false) in
     let P : List (Vec ℕ × ℕ) → Type 0 = λ entries. IsJar entries c.swap-in-None.new.x.items (put (record { name = c.args.name.now; value = c.args.value.now }) c.args.self.now) in
     let whole = subst P (sym c.in_ok-insert-in-None.ensures.entries) made in
     jar_is _ _ _ whole
