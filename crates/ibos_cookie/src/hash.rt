@@ -4,6 +4,9 @@ ghost use Rattle.ibos_cookie.specs.Hash.{number_of};
 
 use std::hash::Hasher;
 
+// 2^64 over the golden ratio, as an odd number: its product with a state reaches all bits.
+const SPREAD: u64 = 0x9e37_79b9_7f4a_7c15;
+
 /// A hash function for texts. A table feeds it their bytes one at a time, so that a step must be
 /// short: a rotation, and no product but at the end.
 #[derive(Clone, Copy, Default)]
@@ -20,7 +23,7 @@ impl Hasher for TextHasher {
 
     #[inline(always)]
     fn finish(&self) -> u64 {
-        self.state.wrapping_mul(0x9e37_79b9_7f4a_7c15)
+        self.state.wrapping_mul(SPREAD)
     }
 
     #[inline(always)]

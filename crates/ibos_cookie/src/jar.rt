@@ -141,8 +141,7 @@ fn passes_limit(count: usize, bytes: usize, name_len: usize, value_len: usize) -
 
 // Where the value of a cookie begins in the text of its jar.
 fn value_at(lens: &Lens, index: usize) -> usize
-    requires small { table_len lens.now.entries < 2 ^ 63 }
-    requires index { index < length lens.now.entries }
+    requires { table_len lens.now.entries < 2 ^ 63 }
     ensures { result ≡ spec.value_at lens.now.entries index }
 {
     let mut at = 0;

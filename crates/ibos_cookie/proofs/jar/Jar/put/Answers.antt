@@ -52,8 +52,8 @@ passes_limit-requires-in-None c =
     let size = sizes c.args.name.now c.args.value.now _ _ _ is _ _ c.len-count.ensures.len (lens _ _ c.as_slice-text.ensures.value) in
     size.within
 
-pub value_at-at-requires-clause-small : goal.value_at-at-requires-clause-small
-value_at-at-requires-clause-small c =
+pub value_at-at-requires : goal.value_at-at-requires
+value_at-at-requires c =
     let is = stands _ _ _ _ c.self.view_is c.self.invariant in
     let size = sizes c.args.name.now c.args.value.now _ _ _ is _ _ c.len-count.ensures.len (lens _ _ c.as_slice-text.ensures.value) in
     size.small
