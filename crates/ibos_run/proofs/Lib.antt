@@ -4,5 +4,4 @@ pub mod ActCounts
 pub mod Readings
 pub mod Sessions
 pub mod Files
-pub mod Inputs
-pub mod Counts
+pub mod Ends

@@ -1,130 +1,197 @@
 -- A session, act by act.
-use Rattle.std.proofs.Common.{◌≡◌, ℕ, ◌+◌, List, [], ◌∷◌, ◌++◌, Option, refl, sym, ◌∙◌, ap, subst, length, append-nil}
+use Rattle.std.proofs.Common.{◌≡◌, ℕ, ◌+◌, List, [], ◌∷◌, ◌++◌, Bool, true, false, Option, refl, sym, ◌∙◌, ap, subst, length, append-nil, inl, inr}
+use Rattle.std.specs.Prelude.{◌⊎◌, if◌then◌else◌}
 use Rattle.ibos_kinds.specs.declared.act.Act.{Act}
+use Rattle.ibos_kinds.specs.declared.outcome.Outcome.{Outcome}
+use Rattle.ibos_kinds.specs.declared.outcome.Item.{Item}
+use Rattle.ibos_kinds.specs.declared.outcome.Item.TheVariants.{VerdictIs}
+use Rattle.ibos_kinds.specs.declared.names.Verdict.TheVariants.{Heard}
 use Rattle.ibos_script.specs.Printed.{outcome_text}
 use Rattle.ibos_origin.specs.Hosts.{HostTable}
-use Rattle.ibos_model.specs.Journal.{Entry, Journal, heard}
+use Rattle.ibos_nic.specs.declared.log.LogEntry.{LogEntry}
+use Rattle.ibos_nic.specs.declared.log.LogEntry.TheVariants.{In}
+use Rattle.ibos_nic.specs.Registers.{Registers}
+use Rattle.ibos_model.specs.Journal.{Entry, Journal, Kind, Hears, Sends, Nothing, frame_of, frames, heard, hears, if_heard, is_heard, kind_in, kind_of}
+use Rattle.ibos_model.specs.Logs.{Loses, frames_in, got_for, log_after, log_by, newest_in, sent_in, written_in}
+use Rattle.ibos_model.specs.Network.{network}
 use Rattle.ibos_model.specs.Outcomes.{out}
-use Rattle.ibos_model.specs.Runs.{GoesOn, IsRun, entry_of, run, run_from}
+use Rattle.ibos_model.specs.Rings.{register}
+use Rattle.ibos_model.specs.Runs.{Follows, GoesOn, IsWritten, entry_of, left_by, run, run_from}
 use Rattle.ibos_model.specs.Text.{text_of}
-use Rattle.ibos_model.specs.Laws.{AreFronts, DoGoOn}
-use Rattle.ibos_model.specs.Inputs.{Refusal, Reading, onto_acts, journal_of, last_line, printed, session_text}
+use Rattle.ibos_model.specs.Laws.{AreFrameFronts, AreFronts, DoGoOn}
+use Rattle.ibos_model.specs.Inputs.{Refusal, Reading, onto_acts, journal_of, last_line, session_text}
+use Rattle.ibos_net.specs.NetStanding.{AreRegisters}
 use Rattle.ibos_kernel.specs.Tables.{Tables}
-use Rattle.ibos_kernel.specs.Standing.{Stands, entry}
+use Rattle.ibos_kernel.specs.Standing.{Agrees, AreTogether, Stands, entry}
+use Rattle.ibos_run.specs.Device.{IsLogFront, IsLogOf}
+use Rattle.ibos_run.specs.Session.{IsCut, IsMade, IsServed, IsStopped}
 use Rattle.ibos_run.specs.Took.{Took, TookFront}
 use Rattle.ibos_run.proofs.Taken.{front_more, front_of, front_then, took_more, took_none, took_then}
 
--- no act is heard yet, so the device wrote nothing
-unheard : (J : Journal) → heard J ≡ []
-unheard [] = refl
-unheard (e ∷ J) = append-nil (heard J) ∙ unheard J
-
 -- where a session stands: the journal so far, and what is left of the script
-pub record IsAt (H : HostTable) (whole left : Reading) (first now : Option (List ℕ)) (gathered : List ℕ) (kernel : Tables) (J : Journal) : Type 0 where
-  pub stands : Stands J kernel
-  pub table : kernel.hosts ≡ H
+pub record IsServing (H : HostTable) (whole left : Reading) (first now : Option (List ℕ)) (gathered : List ℕ) (k : Tables) (f : Registers) (l : List LogEntry) (J : Journal) : Type 0 where
+  pub stands : Stands J k
+  pub table : k.hosts ≡ H
+  pub agrees : Agrees H J f l
   pub text : Took first now gathered (text_of J)
   pub goes : GoesOn H J left.acts whole.acts
+  pub came : frames_in l ≡ frames J
   pub refuses : left.refused ≡ whole.refused
 
-pub at_start : (whole : Reading) (first : Option (List ℕ)) (gathered : List ℕ) (kernel : Tables) → Stands [] kernel → gathered ≡ []
-    → IsAt kernel.hosts whole whole first first gathered kernel []
-at_start whole first gathered kernel stands empty = record {
+pub start_serving : (whole : Reading) (first : Option (List ℕ)) (gathered : List ℕ) (k : Tables) (f : Registers) (l : List LogEntry)
+    → Stands [] k → Agrees k.hosts [] f l → l ≡ [] → gathered ≡ [] → IsServing k.hosts whole whole first first gathered k f l []
+start_serving whole first gathered k f l stands agrees none empty = record {
   stands = stands;
   table = refl;
+  agrees = agrees;
   text = subst (λ g. Took first first g []) (sym empty) (took_none first []);
   goes = λ W. refl;
+  came = ap frames_in none;
   refuses = refl;
 }
 
+-- the device agrees, over the kernel's own table
+pub agrees_there : (H : HostTable) (whole left : Reading) (first now : Option (List ℕ)) (gathered : List ℕ) (k : Tables) (f : Registers) (l : List LogEntry) (J : Journal)
+    → IsServing H whole left first now gathered k f l J → Agrees k.hosts J f l
+agrees_there H whole left first now gathered k f l J serving = subst (λ (T : HostTable). Agrees T J f l) (sym serving.table) serving.agrees
+
+pub together : (H : HostTable) (whole left : Reading) (first now : Option (List ℕ)) (gathered : List ℕ) (k : Tables) (f : Registers) (l : List LogEntry) (J : Journal)
+    → IsServing H whole left first now gathered k f l J → AreTogether k f l
+together H whole left first now gathered k f l J serving = (J, serving.stands, agrees_there H whole left first now gathered k f l J serving)
+
+-- ---- one act
+
+got_written : (h : Bool) (w : List ℕ) → IsWritten h (if h then w else [])
+got_written true w = tt
+got_written false w = refl
+
+follows : (H : HostTable) (J : Journal) (act : Act) (l : List LogEntry) → Follows H J (entry act (out H J act) l)
+follows H J act l = record { outcome = refl; written = got_written (is_heard (out H J act)) (newest_in l) }
+
+frames_grow : (k : Kind) (frame w b : List ℕ) (l : List LogEntry) → frames_in (log_by k frame w b l) ≡ frames_in l ++ (if hears k then frame ∷ [] else [])
+frames_grow Hears frame w b l = refl
+frames_grow Sends frame w b l = sym (append-nil (frames_in l))
+frames_grow Nothing frame w b l = sym (append-nil (frames_in l))
+
 -- one act was made
-pub at_next : DoGoOn → (H : HostTable) (whole left after : Reading) (first now new : Option (List ℕ)) (gathered more : List ℕ) (kernel kept : Tables) (act : Act) (J : Journal)
-    → IsAt H whole left first now gathered kernel J → left ≡ onto_acts act after
-    → Stands (entry act (out kernel.hosts J act) ∷ J) kept → kept.hosts ≡ kernel.hosts
-    → Took now new more (gathered ++ outcome_text (length J + 1) (out kernel.hosts J act))
-    → IsAt H whole after first new more kept (entry act (out H J act) ∷ J)
-at_next goes_on H whole left after first now new gathered more kernel kept act J at split stands same took =
-    let e : Entry = entry act (out H J act) in
-    let hosts : kept.hosts ≡ H = same ∙ at.table in
+pub next_serving : DoGoOn → (H : HostTable) (whole left after : Reading) (first now new : Option (List ℕ)) (gathered more : List ℕ) (k k' : Tables) (f f' : Registers) (l l' : List LogEntry) (act : Act) (J : Journal)
+    → IsServing H whole left first now gathered k f l J → left ≡ onto_acts act after
+    → IsMade k.hosts J act now new gathered more k' f' l l' → k'.hosts ≡ k.hosts
+    → IsServing H whole after first new more k' f' l' (entry act (out H J act) l' ∷ J)
+next_serving goes_on H whole left after first now new gathered more k k' f f' l l' act J serving split made-there same =
+    let made : IsMade H J act now new gathered more k' f' l l' = subst (λ (T : HostTable). IsMade T J act now new gathered more k' f' l l') serving.table made-there in
+    let e : Entry = entry act (out H J act) l' in
     let line : List ℕ = outcome_text (length J + 1) (out H J act) in
-    let stands-here : Stands (e ∷ J) kept = subst (λ (T : HostTable). Stands (entry act (out T J act) ∷ J) kept) at.table stands in
-    let is : IsRun H (e ∷ J) = subst (λ (T : HostTable). IsRun T (e ∷ J)) hosts stands-here.parts.run in
-    let took-here : Took now new more (gathered ++ line) =
-    subst (λ (T : HostTable). Took now new more (gathered ++ outcome_text (length J + 1) (out T J act))) at.table took in
     record {
-      stands = stands-here;
-      table = hosts;
-      text = took_then first now new (gathered ++ line) more (text_of J ++ line) (took_more first now gathered (text_of J) line at.text) took-here;
-      goes = goes_on H J e after.acts whole.acts is.0 (subst (λ (r : Reading). GoesOn H J r.acts whole.acts) split at.goes);
-      refuses = ap (λ (r : Reading). r.refused) (sym split) ∙ at.refuses;
+      stands = made.stands;
+      table = same ∙ serving.table;
+      agrees = made.agrees;
+      text = took_then first now new (gathered ++ line) more (text_of J ++ line) (took_more first now gathered (text_of J) line serving.text) made.text;
+      goes = goes_on H J e after.acts whole.acts (follows H J act l') (subst (λ (r : Reading). GoesOn H J r.acts whole.acts) split serving.goes);
+      came = ap frames_in made.log ∙ frames_grow (kind_of (out H J act)) (frame_of act) (got_for (out H J act) l') [] l
+          ∙ ap (λ fs. fs ++ if_heard (out H J act) (frame_of act)) serving.came;
+      refuses = ap (λ (r : Reading). r.refused) (sym split) ∙ serving.refuses;
     }
 
--- by the acts that are left the session comes to its whole journal
-comes_to : (H : HostTable) (whole : Reading) (J : Journal) (left : List Act) → GoesOn H J left whole.acts → run_from H J left [] ≡ journal_of H whole []
-comes_to H whole J left goes = goes [] ∙ ap (run H whole.acts) (append-nil (heard J) ∙ unheard J)
+none_sent : (items : List Item) → kind_in items ≡ Sends → ⊥
+none_sent (VerdictIs Heard ∷ items) is = cc is
+none_sent items is = cc is
 
--- a front of the text of a journal that the session goes on from is a front of its whole text
-stopped : AreFronts → (H : HostTable) (whole : Reading) (J : Journal) (left : List Act) (W : List (List ℕ)) (first now : Option (List ℕ)) (gathered : List ℕ)
-    → TookFront first now gathered (text_of J) → run_from H J left W ≡ journal_of H whole [] → TookFront first now gathered (session_text H whole [])
+-- an act that was made is no loss
+pub made_loses : (H : HostTable) (J : Journal) (act : Act) (o : Outcome) (w : List ℕ) (l l' : List LogEntry) → o ≡ out H J act → l' ≡ log_after o (frame_of act) w [] l → Loses (out H J act) act l l'
+made_loses H J act o w l l' is log = subst (λ (o : Outcome). Loses o act l l') is (by_kind (kind_of o) refl log)
+  where
+    by_kind : (k : Kind) → kind_of o ≡ k → l' ≡ log_by k (frame_of act) w [] l → (l' ≡ l) ⊎ ((w : List ℕ) × (is_heard o ≡ true) × (l' ≡ In (frame_of act) w ∷ l))
+    by_kind Hears is log = inr (w, ap hears is, log)
+    by_kind Sends is log = absurd (none_sent o.items is)
+    by_kind Nothing is log = inl log
+
+-- ---- an early end
+
+-- the run goes on to the whole, by way of one journal for the text and of one for the log
+stopped_by : AreFronts → AreFrameFronts → (H : HostTable) (whole : Reading) (first now : Option (List ℕ)) (gathered : List ℕ) (l : List LogEntry) (J K : Journal) (A B : List Act) (V W : List (List ℕ))
+    → TookFront first now gathered (text_of J) → run_from H J A V ≡ journal_of H whole (written_in l)
+    → frames_in l ≡ frames K → run_from H K B W ≡ journal_of H whole (written_in l) → sent_in l ≡ []
+    → IsStopped H whole first now gathered l
 unfolding session_text
-stopped fronts H whole J left W first now gathered took comes =
-    let more = fronts H J left W in
-    let journal : Journal = journal_of H whole [] in
-    front_more first now gathered (text_of journal) (last_line (length journal) whole.refused)
-    (subst (λ t. TookFront first now gathered t) (more.1 ∙ ap (λ (j : Journal). text_of j) comes) (front_more first now gathered (text_of J) more.0 took))
+stopped_by fronts frame_fronts H whole first now gathered l J K A B V W took text-on came came-on sent =
+    let text = fronts H J A V in
+    let log = frame_fronts H K B W in
+    let journal : Journal = journal_of H whole (written_in l) in
+    record {
+      text = front_more first now gathered (text_of journal) (last_line (length journal) whole.refused)
+          (subst (λ t. TookFront first now gathered t) (text.1 ∙ ap (λ (j : Journal). text_of j) text-on) (front_more first now gathered (text_of J) text.0 took));
+      logged = record { came = (log.0, ap (λ fs. fs ++ log.0) came ∙ log.1 ∙ ap (λ (j : Journal). frames j) came-on); sent = sent };
+    }
 
--- it stopped between two acts
-pub stopped_between : AreFronts → (H : HostTable) (whole left : Reading) (first now : Option (List ℕ)) (gathered : List ℕ) (kernel : Tables) (J : Journal)
-    → IsAt H whole left first now gathered kernel J → TookFront first now gathered (session_text H whole [])
-stopped_between fronts H whole left first now gathered kernel J at =
-    stopped fronts H whole J left.acts [] first now gathered (front_of first now gathered (text_of J) at.text) (comes_to H whole J left.acts at.goes)
+-- the run from here on, where X will be heard
+rest_is : (H : HostTable) (whole : Reading) (J : Journal) (A : List Act) (W X : List (List ℕ)) → GoesOn H J A whole.acts → W ≡ heard J ++ X → run_from H J A X ≡ journal_of H whole W
+rest_is H whole J A W X goes is = goes X ∙ ap (run H whole.acts) (sym is)
 
--- it stopped within an act
-pub stopped_within : AreFronts → (H : HostTable) (whole left after : Reading) (first now new : Option (List ℕ)) (gathered more : List ℕ) (kernel : Tables) (act : Act) (J : Journal)
-    → IsAt H whole left first now gathered kernel J → left ≡ onto_acts act after
-    → TookFront now new more (gathered ++ outcome_text (length J + 1) (out kernel.hosts J act)) → TookFront first new more (session_text H whole [])
-stopped_within fronts H whole left after first now new gathered more kernel act J at split front =
-    let line : List ℕ = outcome_text (length J + 1) (out H J act) in
-    let front-here : TookFront now new more (gathered ++ line) =
-    subst (λ (T : HostTable). TookFront now new more (gathered ++ outcome_text (length J + 1) (out T J act))) at.table front in
-    let took : TookFront first now (gathered ++ line) (text_of J ++ line) =
-    front_of first now (gathered ++ line) (text_of J ++ line) (took_more first now gathered (text_of J) line at.text) in
-    let goes : GoesOn H J (act ∷ after.acts) whole.acts = subst (λ (r : Reading). GoesOn H J r.acts whole.acts) split at.goes in
-    stopped fronts H whole (entry_of H J [] act ∷ J) after.acts [] first new more
-    (front_then first now new (gathered ++ line) more (text_of J ++ line) took front-here) (comes_to H whole J (act ∷ after.acts) goes)
+-- between two acts
+pub paused : AreFronts → AreFrameFronts → (H : HostTable) (whole left : Reading) (first now : Option (List ℕ)) (gathered : List ℕ) (k : Tables) (f : Registers) (l : List LogEntry) (J : Journal)
+    → IsServing H whole left first now gathered k f l J → IsStopped H whole first now gathered l
+paused fronts frame_fronts H whole left first now gathered k f l J serving =
+    let on : run_from H J left.acts [] ≡ journal_of H whole (written_in l) =
+    rest_is H whole J left.acts (written_in l) [] serving.goes (serving.agrees.written ∙ sym (append-nil (heard J))) in
+    stopped_by fronts frame_fronts H whole first now gathered l J J left.acts left.acts [] [] (front_of first now gathered (text_of J) serving.text) on serving.came on serving.agrees.sent
 
--- what a session has made where the script ends
-pub record IsOver (H : HostTable) (whole : Reading) (first now : Option (List ℕ)) (gathered : List ℕ) (acts : ℕ) (refused : Option Refusal) : Type 0 where
-  pub text : Took first now gathered (text_of (journal_of H whole []))
-  pub counted : acts ≡ length (journal_of H whole [])
+-- within an act
+pub cut_stopped : AreFronts → AreFrameFronts → (H : HostTable) (whole left after : Reading) (first now new : Option (List ℕ)) (gathered more : List ℕ) (k : Tables) (f : Registers) (l l' : List LogEntry) (act : Act) (J : Journal)
+    → IsServing H whole left first now gathered k f l J → left ≡ onto_acts act after
+    → IsCut k.hosts J act now new gathered more l l' → IsStopped H whole first new more l'
+cut_stopped fronts frame_fronts H whole left after first now new gathered more k f l l' act J serving split cut-there = by_log cut.loses
+  where
+    cut : IsCut H J act now new gathered more l l'
+    cut = subst (λ (T : HostTable). IsCut T J act now new gathered more l l') serving.table cut-there
+
+    line : List ℕ
+    line = outcome_text (length J + 1) (out H J act)
+
+    goes : GoesOn H J (act ∷ after.acts) whole.acts
+    goes = subst (λ (r : Reading). GoesOn H J r.acts whole.acts) split serving.goes
+
+    took : TookFront first new more (text_of J ++ line)
+    took =
+        front_then first now new (gathered ++ line) more (text_of J ++ line)
+        (front_of first now (gathered ++ line) (text_of J ++ line) (took_more first now gathered (text_of J) line serving.text)) cut.text
+
+    by_log : Loses (out H J act) act l l' → IsStopped H whole first new more l'
+    by_log (inl same) =
+        let on : run_from H J (act ∷ after.acts) [] ≡ journal_of H whole (written_in l') =
+        rest_is H whole J (act ∷ after.acts) (written_in l') [] goes (ap written_in same ∙ serving.agrees.written ∙ sym (append-nil (heard J))) in
+        stopped_by fronts frame_fronts H whole first new more l' (entry_of H J [] act ∷ J) J after.acts (act ∷ after.acts) (left_by (is_heard (out H J act)) []) [] took on
+        (ap frames_in same ∙ serving.came) on (ap sent_in same ∙ serving.agrees.sent)
+    by_log (inr grown) =
+        let W = grown.0 ∷ [] in
+        let on : run_from H J (act ∷ after.acts) W ≡ journal_of H whole (written_in l') =
+        rest_is H whole J (act ∷ after.acts) (written_in l') W goes (ap written_in grown.2 ∙ ap (λ ws. ws ++ W) serving.agrees.written) in
+        stopped_by fronts frame_fronts H whole first new more l' (entry_of H J W act ∷ J) (entry_of H J W act ∷ J) after.acts after.acts
+        (left_by (is_heard (out H J act)) W) (left_by (is_heard (out H J act)) W) took on
+        (ap frames_in grown.2 ∙ ap (λ fs. fs ++ frame_of act ∷ []) serving.came ∙ came-so (is_heard (out H J act)) grown.1) on
+        (ap sent_in grown.2 ∙ serving.agrees.sent)
+      where
+        came-so : (h : Bool) → h ≡ true → frames J ++ frame_of act ∷ [] ≡ frames J ++ (if h then frame_of act ∷ [] else [])
+        came-so h is = rw is refl
+
+-- ---- the script's end
+
+pub record IsOver (H : HostTable) (whole : Reading) (first now : Option (List ℕ)) (gathered : List ℕ) (f : Registers) (l : List LogEntry) (acts : ℕ) (refused : Option Refusal) : Type 0 where
+  pub served : IsServed H whole first now gathered f l
+  pub counted : acts ≡ length (journal_of H whole (written_in l))
   pub refuses : refused ≡ whole.refused
 
-pub over : (H : HostTable) (whole left : Reading) (first now : Option (List ℕ)) (gathered : List ℕ) (kernel : Tables) (J : Journal) (refused : Option Refusal)
-    → IsAt H whole left first now gathered kernel J → left ≡ record { acts = []; refused = refused } → IsOver H whole first now gathered kernel.acts refused
-over H whole left first now gathered kernel J refused at ends =
-    let all : J ≡ journal_of H whole [] = comes_to H whole J [] (subst (λ (r : Reading). GoesOn H J r.acts whole.acts) ends at.goes) in
+pub over : (H : HostTable) (whole left : Reading) (first now : Option (List ℕ)) (gathered : List ℕ) (k : Tables) (f : Registers) (l : List LogEntry) (J : Journal) (refused : Option Refusal)
+    → IsServing H whole left first now gathered k f l J → left ≡ record { acts = []; refused = refused } → IsOver H whole first now gathered f l k.acts refused
+over H whole left first now gathered k f l J refused serving ends =
+    let all : J ≡ journal_of H whole (written_in l) =
+    rest_is H whole J [] (written_in l) [] (subst (λ (r : Reading). GoesOn H J r.acts whole.acts) ends serving.goes) (serving.agrees.written ∙ sym (append-nil (heard J))) in
     record {
-      text = subst (λ (j : Journal). Took first now gathered (text_of j)) all at.text;
-      counted = sym at.stands.acts ∙ ap (λ (j : Journal). length j) all;
-      refuses = ap (λ (r : Reading). r.refused) (sym ends) ∙ at.refuses;
+      served = record {
+        text = subst (λ (j : Journal). Took first now gathered (text_of j)) all serving.text;
+        logged = record { came = serving.came ∙ ap (λ (j : Journal). frames j) all; sent = serving.agrees.sent };
+        registers = λ r. serving.agrees.registers r ∙ ap (λ (j : Journal). register H.local (network j).rings r) all;
+      };
+      counted = sym serving.stands.acts ∙ ap (λ (j : Journal). length j) all;
+      refuses = ap (λ (r : Reading). r.refused) (sym ends) ∙ serving.refuses;
     }
-
--- the last line joins what is gathered
-pub with_last : (H : HostTable) (whole : Reading) (first now : Option (List ℕ)) (gathered text : List ℕ) (acts : ℕ) (refused : Option Refusal)
-    → IsOver H whole first now gathered acts refused → text ≡ gathered ++ last_line acts refused → Took first now text (session_text H whole [])
-unfolding session_text
-with_last H whole first now gathered text acts refused over pushed =
-    let J : Journal = journal_of H whole [] in
-    let last : text ≡ gathered ++ last_line (length J) whole.refused =
-    pushed ∙ ap (λ n. gathered ++ last_line n refused) over.counted ∙ ap (λ r. gathered ++ last_line (length J) r) over.refuses in
-    subst (λ t. Took first now t (printed J whole.refused)) (sym last)
-    (took_more first now gathered (text_of J) (last_line (length J) whole.refused) over.text)
-
--- it doesn't
-pub without_last : (H : HostTable) (whole : Reading) (first now : Option (List ℕ)) (gathered text : List ℕ)
-    → Took first now gathered (text_of (journal_of H whole [])) → text ≡ gathered → TookFront first now text (session_text H whole [])
-unfolding session_text
-without_last H whole first now gathered text took same =
-    let J : Journal = journal_of H whole [] in
-    subst (λ t. TookFront first now t (printed J whole.refused)) (sym same)
-    (front_more first now gathered (text_of J) (last_line (length J) whole.refused) (front_of first now gathered (text_of J) took))

@@ -12,5 +12,3 @@ mod transfer;
 pub use fault::Status;
 pub use run_words::run;
 
-#[cfg(test)]
-mod tests;

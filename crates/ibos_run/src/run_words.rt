@@ -7,8 +7,11 @@ ghost use Rattle.ibos_origin.specs.Reads.{Reads};
 ghost use Rattle.ibos_origin.specs.Tables.{hosts_in};
 ghost use Rattle.ibos_model.specs.Inputs.{IsIsolatedInput, form_in, host_refusal, input};
 ghost use Rattle.ibos_model.specs.Inputs.{input_with, refusal_line, session_in, table_in, wanted};
+ghost use Rattle.ibos_model.specs.Logs.{written_in};
+ghost use Rattle.ibos_run.specs.Device.{AreRegistersOf, IsLogged, IsLoggedFront, IsReset};
 ghost use Rattle.ibos_run.specs.Faults.{IsCaused, IsFaultless, OnWhole, status_for};
 ghost use Rattle.ibos_run.specs.Forms.{form_of};
+ghost use Rattle.ibos_run.specs.Session.{IsBroken, IsTold};
 ghost use Rattle.ibos_run.specs.Took.{Took, TookFront};
 
 use crate::fault::{Fault, Status};
@@ -19,6 +22,7 @@ use crate::texts::{File, refusal, usage};
 use crate::transfer::{read_file, write_all};
 use ibos_kinds::{Bytes, Cabinet, Failed, Sink};
 use ibos_model::isolation;
+use ibos_nic::Nic;
 use ibos_origin::{HostFault, Hosts, HostsFault};
 use std::alloc::Global;
 
@@ -33,31 +37,48 @@ const MAX_HOSTS_LEN: usize = 4_194_304;
 /// numbered from 1. The last line is `end K` with the number of acts, or `refused FILE K N NAME`
 /// with the first fault: FILE is `hosts` or `script`, K the line, N and NAME the fault's number and
 /// name. Any other words are answered with the usage line, for which no memory is taken.
-pub fn run<C: Cabinet, K: Sink>(
+///
+/// The device is at reset, and is asked for nothing until the host table and the script are read.
+/// In the clauses W is what it wrote for the frames that came in, by its log at the end.
+pub fn run<C: Cabinet, N: Nic, K: Sink>(
     alloc: Global,
     words: &[Bytes],
     cabinet: &mut C,
+    nic: &mut N,
     sink: &mut K,
 ) -> Status
+    requires reset { IsReset (N.regs nic.old) (N.log nic.old) }
     requires sink_count { K.faults sink.old < 2 ^ 64 - 1 }
     requires file_counts { IfSome (form_in words.now) (λ form.
         (C.faults cabinet.old form.hosts < 2 ^ 64 - 1)
         × (C.faults cabinet.old form.script < 2 ^ 64 - 1)) }
 
-    // Where no failed read or write ended the run, and it was not out of memory, its status and its
-    // text are those of the inputs.
+    // Where no failed read or write ended the run, and it was not out of memory, its status, its
+    // text and the device's log are those of the inputs, with that W.
     ensures status { OnWhole result (
         IfSome (input words.now (C.holds cabinet.old)) (λ i. result ≡ status_for i)) }
     ensures text { OnWhole result (
         IfSome (input words.now (C.holds cabinet.old)) (λ i.
-        K.taken sink.new ≡ taken_after (K.taken sink.old) (wanted i []))) }
+        K.taken sink.new
+        ≡ taken_after (K.taken sink.old) (wanted i (written_in (N.log nic.new))))) }
+    ensures log { OnWhole result (
+        IfSome (input words.now (C.holds cabinet.old)) (λ i. IsLogged i (N.log nic.new))) }
 
-    // With any status the sink took a front of that text.
+    // With any status the sink took a front of that text, and a front of those frames came in.
     ensures text_front { IfSome (input words.now (C.holds cabinet.old)) (λ i.
-        TookFront (K.taken sink.old) (K.taken sink.new) [] (wanted i [])) }
+        TookFront (K.taken sink.old) (K.taken sink.new) []
+        (wanted i (written_in (N.log nic.new)))) }
+    ensures log_front { IfSome (input words.now (C.holds cabinet.old)) (λ i.
+        IsLoggedFront i (N.log nic.new)) }
+
+    // Where the inputs were read to their end, the device's registers are those of their journal.
+    ensures registers { OnWhole result (
+        IfSome (input words.now (C.holds cabinet.old)) (λ i.
+        AreRegistersOf i (N.regs nic.new) (written_in (N.log nic.new)))) }
 
     // In the journal of the inputs each instance is told what the facts that concern it give.
-    ensures isolation { IfSome (input words.now (C.holds cabinet.old)) (IsIsolatedInput []) }
+    ensures isolation { IfSome (input words.now (C.holds cabinet.old))
+        (IsIsolatedInput (written_in (N.log nic.new))) }
 
     // The cabinet holds what it held.
     ensures holds { (name : List ℕ) → C.holds cabinet.new name ≡ C.holds cabinet.old name }
@@ -86,7 +107,7 @@ pub fn run<C: Cabinet, K: Sink>(
             Ok(()) => Status::Usage,
             Err(Failed::Failed) => Status::WriteFault,
         },
-        Some(form) => match run_files(alloc, form.hosts, form.script, cabinet, sink) {
+        Some(form) => match run_files(alloc, form.hosts, form.script, cabinet, nic, sink) {
             Ok(status) => status,
             Err(fault) => fault.status(),
         },
@@ -112,22 +133,24 @@ fn read_form(words: &[Bytes]) -> Option<Form<'_>>
 }
 
 // What is gathered is handed over, also where a read failed or the run is out of memory.
-fn run_files<C: Cabinet, K: Sink>(
+fn run_files<C: Cabinet, N: Nic, K: Sink>(
     alloc: Global,
     hosts: &Bytes,
     script: &Bytes,
     cabinet: &mut C,
+    nic: &mut N,
     sink: &mut K,
 ) -> Result<Status, Fault>
+    requires { IsReset (N.regs nic.old) (N.log nic.old) }
     ensures status { IfOk result (λ status.
         IfSome (input_with (C.holds cabinet.old hosts.now) (C.holds cabinet.old script.now)) (λ i.
         status ≡ status_for i)) }
-    ensures text { OnOk result (
+    ensures told { OnOk result (
         IfSome (input_with (C.holds cabinet.old hosts.now) (C.holds cabinet.old script.now)) (λ i.
-        Took (K.taken sink.old) (K.taken sink.new) [] (wanted i []))) }
-    ensures front { OnErr result (
+        IsTold i (K.taken sink.old) (K.taken sink.new) (N.regs nic.new) (N.log nic.new))) }
+    ensures broken { OnErr result (
         IfSome (input_with (C.holds cabinet.old hosts.now) (C.holds cabinet.old script.now)) (λ i.
-        TookFront (K.taken sink.old) (K.taken sink.new) [] (wanted i []))) }
+        IsBroken i (K.taken sink.old) (K.taken sink.new) [] (N.log nic.new))) }
     ensures ends { IfOk result (λ status. (status ≡ Status.Done) ⊎ (status ≡ Status.Refused)) }
     ensures holds { (name : List ℕ) → C.holds cabinet.new name ≡ C.holds cabinet.old name }
     ensures cause { IfErr result (λ fault. IsCaused fault
@@ -136,7 +159,7 @@ fn run_files<C: Cabinet, K: Sink>(
         (Rose (K.faults sink.old) (K.faults sink.new))) }
 {
     let mut text = make_room(alloc)?;
-    match gather(alloc, hosts, script, cabinet, &mut text, sink) {
+    match gather(alloc, hosts, script, cabinet, nic, &mut text, sink) {
         Ok(status) => Ok(status),
         Err(fault) => {
             hand_over(&mut text, sink)?;
@@ -145,24 +168,26 @@ fn run_files<C: Cabinet, K: Sink>(
     }
 }
 
-fn gather<C: Cabinet, K: Sink>(
+fn gather<C: Cabinet, N: Nic, K: Sink>(
     alloc: Global,
     hosts: &Bytes,
     script: &Bytes,
     cabinet: &mut C,
+    nic: &mut N,
     text: &mut Bytes,
     sink: &mut K,
 ) -> Result<Status, Fault>
-    requires { text.old ≡ [] }
+    requires reset { IsReset (N.regs nic.old) (N.log nic.old) }
+    requires empty { text.old ≡ [] }
     ensures status { IfOk result (λ status.
         IfSome (input_with (C.holds cabinet.old hosts.now) (C.holds cabinet.old script.now)) (λ i.
         status ≡ status_for i)) }
-    ensures text { OnOk result (
+    ensures told { OnOk result (
         IfSome (input_with (C.holds cabinet.old hosts.now) (C.holds cabinet.old script.now)) (λ i.
-        Took (K.taken sink.old) (K.taken sink.new) [] (wanted i []))) }
-    ensures front { OnErr result (
+        IsTold i (K.taken sink.old) (K.taken sink.new) (N.regs nic.new) (N.log nic.new))) }
+    ensures broken { OnErr result (
         IfSome (input_with (C.holds cabinet.old hosts.now) (C.holds cabinet.old script.now)) (λ i.
-        TookFront (K.taken sink.old) (K.taken sink.new) text.new (wanted i []))) }
+        IsBroken i (K.taken sink.old) (K.taken sink.new) text.new (N.log nic.new))) }
     ensures ends { IfOk result (λ status. (status ≡ Status.Done) ⊎ (status ≡ Status.Refused)) }
     ensures holds { (name : List ℕ) → C.holds cabinet.new name ≡ C.holds cabinet.old name }
     ensures later { K.faults sink.old ≤ K.faults sink.new }
@@ -172,8 +197,11 @@ fn gather<C: Cabinet, K: Sink>(
         (Rose (K.faults sink.old) (K.faults sink.new))) }
 {
     match read_hosts(alloc, cabinet, hosts)? {
-        Ok(hosts) => gather_script(alloc, hosts, script, cabinet, text, sink),
-        Err(HostsFault::At { line, fault }) => refuse_hosts(alloc, line, fault, text, sink),
+        Ok(hosts) => gather_script(alloc, hosts, script, cabinet, nic, text, sink),
+        Err(HostsFault::At { line, fault }) => {
+            let status = refuse_hosts(alloc, line, fault, text, sink)?;
+            Ok(status)
+        }
         Err(HostsFault::Memory) => Err(Fault::Memory),
     }
 }
@@ -219,23 +247,25 @@ fn refuse_hosts<K: Sink>(
     Ok(Status::Refused)
 }
 
-fn gather_script<C: Cabinet, K: Sink>(
+fn gather_script<C: Cabinet, N: Nic, K: Sink>(
     alloc: Global,
     hosts: Hosts,
     name: &Bytes,
     cabinet: &mut C,
+    nic: &mut N,
     text: &mut Bytes,
     sink: &mut K,
 ) -> Result<Status, Fault>
-    requires { text.old ≡ [] }
+    requires reset { IsReset (N.regs nic.old) (N.log nic.old) }
+    requires empty { text.old ≡ [] }
     ensures status { IfOk result (λ status.
         IfSome (session_in hosts (C.holds cabinet.old name.now)) (λ i. status ≡ status_for i)) }
-    ensures text { OnOk result (
+    ensures told { OnOk result (
         IfSome (session_in hosts (C.holds cabinet.old name.now)) (λ i.
-        Took (K.taken sink.old) (K.taken sink.new) [] (wanted i []))) }
-    ensures front { OnErr result (
+        IsTold i (K.taken sink.old) (K.taken sink.new) (N.regs nic.new) (N.log nic.new))) }
+    ensures broken { OnErr result (
         IfSome (session_in hosts (C.holds cabinet.old name.now)) (λ i.
-        TookFront (K.taken sink.old) (K.taken sink.new) text.new (wanted i []))) }
+        IsBroken i (K.taken sink.old) (K.taken sink.new) text.new (N.log nic.new))) }
     ensures ends { IfOk result (λ status. (status ≡ Status.Done) ⊎ (status ≡ Status.Refused)) }
     ensures holds { (name : List ℕ) → C.holds cabinet.new name ≡ C.holds cabinet.old name }
     ensures files_later { (name : List ℕ) → C.faults cabinet.old name ≤ C.faults cabinet.new name }
@@ -245,6 +275,6 @@ fn gather_script<C: Cabinet, K: Sink>(
         (Rose (K.faults sink.old) (K.faults sink.new))) }
 {
     let script = read_file(alloc, cabinet, name, MAX_SCRIPT_LEN)?;
-    let status = run_session(alloc, hosts, script.as_slice(), text, sink)?;
+    let status = run_session(alloc, hosts, script.as_slice(), nic, text, sink)?;
     Ok(status)
 }

@@ -1,17 +1,16 @@
 // A session: the acts of a script, and the text that they bring.
-ghost use Rattle.std.specs.Prelude.{◌≡◌, ◌≤◌, ◌<◌, ◌+◌, ◌^◌, [], ◌∷◌, ◌++◌, true, length, IfOk};
+ghost use Rattle.std.specs.Prelude.{◌≡◌, ◌≤◌, ◌<◌, ◌+◌, ◌^◌, [], ◌++◌, true, length, IfOk};
 ghost use Rattle.std.specs.Prelude.{OnOk, OnErr, IfErr, string_bytes};
 ghost use Rattle.ibos_kinds.specs.Limits.{Fits};
 ghost use Rattle.ibos_kinds.specs.Outside.{Rose};
-ghost use Rattle.ibos_script.specs.Printed.{outcome_text};
 ghost use Rattle.ibos_model.specs.Journal.{Journal};
-ghost use Rattle.ibos_model.specs.Outcomes.{out};
-ghost use Rattle.ibos_model.specs.Text.{text_of};
-ghost use Rattle.ibos_model.specs.Inputs.{journal_of, last_line, reading_of, session_text};
-ghost use Rattle.ibos_kernel.specs.Standing.{Stands, entry};
+ghost use Rattle.ibos_model.specs.Logs.{written_in};
+ghost use Rattle.ibos_model.specs.Inputs.{Session, journal_of, last_line, reading_of};
+ghost use Rattle.ibos_kernel.specs.Standing.{Agrees, AreTogether, Stands};
+ghost use Rattle.ibos_run.specs.Device.{IsReset};
 ghost use Rattle.ibos_run.specs.Faults.{IsCaused, ending};
 ghost use Rattle.ibos_run.specs.Script.{IsOfScript, refusal_of};
-ghost use Rattle.ibos_run.specs.Took.{Took, TookFront};
+ghost use Rattle.ibos_run.specs.Session.{IsBroken, IsCut, IsMade, IsServed, IsStopped, IsTold};
 
 use crate::fault::{Fault, Status};
 use crate::gather::{hand_over, hand_over_if_much};
@@ -19,120 +18,133 @@ use crate::script::{End, MAX_SCRIPT_LEN, Next, Script};
 use crate::texts::{File, end_line, refusal};
 use ibos_kernel::Kernel;
 use ibos_kinds::{Act, Bytes, Memory, Outcome, Sink};
-use ibos_model::{runs_go_on, texts_are_fronts};
+use ibos_model::{frames_are_fronts, runs_go_on, texts_are_fronts};
+use ibos_nic::Nic;
 use ibos_origin::Hosts;
 use ibos_script::write_outcome;
 use std::alloc::Global;
 
-/// Runs a script over a host table. What is gathered and not handed over stays in `text`.
-pub fn run_session<K: Sink>(
+/// Runs a script over a host table and a device at reset. What is gathered and not handed over
+/// stays in `text`.
+pub fn run_session<N: Nic, K: Sink>(
     alloc: Global,
     hosts: Hosts,
     script: &[u8],
+    nic: &mut N,
     text: &mut Bytes,
     sink: &mut K,
 ) -> Result<Status, Fault>
     requires within { length script.now ≤ MAX_SCRIPT_LEN + 1 }
+    requires reset { IsReset (N.regs nic.old) (N.log nic.old) }
     requires empty { text.old ≡ [] }
     ensures status { IfOk result (λ status. status ≡ ending (reading_of [] script.now).refused) }
-    ensures text { OnOk result (Took (K.taken sink.old) (K.taken sink.new) []
-        (session_text hosts (reading_of [] script.now) [])) }
-    ensures front { OnErr result (TookFront (K.taken sink.old) (K.taken sink.new) text.new
-        (session_text hosts (reading_of [] script.now) [])) }
+    ensures told { OnOk result (IsTold (Session hosts (reading_of [] script.now))
+        (K.taken sink.old) (K.taken sink.new) (N.regs nic.new) (N.log nic.new)) }
+    ensures broken { OnErr result (IsBroken (Session hosts (reading_of [] script.now))
+        (K.taken sink.old) (K.taken sink.new) text.new (N.log nic.new)) }
     ensures later { K.faults sink.old ≤ K.faults sink.new }
     ensures cause { IfErr result (λ fault.
         IsCaused fault ⊥ (Rose (K.faults sink.old) (K.faults sink.new))) }
 {
-    let mut kernel = Kernel::new(alloc, hosts)?;
+    let mut kernel = Kernel::new(alloc, hosts, nic)?;
     let mut script = Script::new(script);
-    let ended = run_script(alloc, &mut kernel, &mut script, text, sink);
-    drop(kernel);
+    let ended = run_script(alloc, &mut kernel, &mut script, nic, text, sink);
+    kernel.close();
     ended
 }
 
 // The same, by a kernel that has made no act.
-fn run_script<K: Sink>(
+fn run_script<N: Nic, K: Sink>(
     alloc: Global,
     kernel: &mut Kernel,
     script: &mut Script<'_>,
+    nic: &mut N,
     text: &mut Bytes,
     sink: &mut K,
 ) -> Result<Status, Fault>
     requires stands { Stands [] kernel.old }
+    requires agrees { Agrees kernel.old.hosts [] (N.regs nic.old) (N.log nic.old) }
+    requires log { N.log nic.old ≡ [] }
     requires usable { kernel.old.usable ≡ true }
     requires few { kernel.old.acts + length script.old.acts < 2 ^ 31 }
     requires empty { text.old ≡ [] }
     ensures status { IfOk result (λ status. status ≡ ending script.old.refused) }
-    ensures text { OnOk result (Took (K.taken sink.old) (K.taken sink.new) []
-        (session_text kernel.old.hosts script.old [])) }
-    ensures front { OnErr result (TookFront (K.taken sink.old) (K.taken sink.new) text.new
-        (session_text kernel.old.hosts script.old [])) }
+    ensures told { OnOk result (IsTold (Session kernel.old.hosts script.old) (K.taken sink.old)
+        (K.taken sink.new) (N.regs nic.new) (N.log nic.new)) }
+    ensures broken { OnErr result (IsBroken (Session kernel.old.hosts script.old)
+        (K.taken sink.old) (K.taken sink.new) text.new (N.log nic.new)) }
     ensures later { K.faults sink.old ≤ K.faults sink.new }
     ensures cause { IfErr result (λ fault.
         IsCaused fault ⊥ (Rose (K.faults sink.old) (K.faults sink.new))) }
 {
-    let end = make_acts(alloc, kernel, script, text, sink)?;
+    let end = make_acts(alloc, kernel, script, nic, text, sink)?;
     let status = push_last(alloc, kernel.acts(), end, text)?;
     hand_over(text, sink)?;
     Ok(status)
 }
 
 // Makes the acts that are left, from a kernel that has made none.
-fn make_acts<K: Sink>(
+fn make_acts<N: Nic, K: Sink>(
     alloc: Global,
     kernel: &mut Kernel,
     script: &mut Script<'_>,
+    nic: &mut N,
     text: &mut Bytes,
     sink: &mut K,
 ) -> Result<End, Fault>
     requires stands { Stands [] kernel.old }
+    requires agrees { Agrees kernel.old.hosts [] (N.regs nic.old) (N.log nic.old) }
+    requires log { N.log nic.old ≡ [] }
     requires usable { kernel.old.usable ≡ true }
     requires few { kernel.old.acts + length script.old.acts < 2 ^ 31 }
     requires empty { text.old ≡ [] }
     ensures end { IfOk result (λ end. refusal_of end ≡ script.old.refused) }
     ensures of_script { IfOk result IsOfScript }
-    ensures text { OnOk result (Took (K.taken sink.old) (K.taken sink.new) text.new
-        (text_of (journal_of kernel.old.hosts script.old []))) }
-    ensures acts { OnOk result (
-        kernel.new.acts ≡ length (journal_of kernel.old.hosts script.old [])) }
-    ensures front { OnErr result (TookFront (K.taken sink.old) (K.taken sink.new) text.new
-        (session_text kernel.old.hosts script.old [])) }
+    ensures served { OnOk result (IsServed kernel.old.hosts script.old (K.taken sink.old)
+        (K.taken sink.new) text.new (N.regs nic.new) (N.log nic.new)) }
+    ensures acts { OnOk result (kernel.new.acts
+        ≡ length (journal_of kernel.old.hosts script.old (written_in (N.log nic.new)))) }
+    ensures stopped { OnErr result (IsStopped kernel.old.hosts script.old (K.taken sink.old)
+        (K.taken sink.new) text.new (N.log nic.new)) }
     ensures later { K.faults sink.old ≤ K.faults sink.new }
     ensures cause { IfErr result (λ fault.
         IsCaused fault ⊥ (Rose (K.faults sink.old) (K.faults sink.new))) }
 {
-    // Both are called for the laws that are their clauses.
+    // Called for the laws that are their clauses.
     runs_go_on();
     texts_are_fronts();
+    frames_are_fronts();
     let mut outcome = Outcome::new(alloc);
     'acts: loop {
         match script.next(alloc)? {
-            Next::Act(act) => make_act(alloc, kernel, act, &mut outcome, text, sink)?,
+            Next::Act(act) => make_act(alloc, kernel, act, &mut outcome, nic, text, sink)?,
             Next::End(end) => return Ok(end),
         }
     }
 }
 
 // Makes one act. `outcome` is room for what comes of it.
-fn make_act<K: Sink>(
+fn make_act<N: Nic, K: Sink>(
     alloc: Global,
     kernel: &mut Kernel,
     act: Act,
     outcome: &mut Outcome,
+    nic: &mut N,
     text: &mut Bytes,
     sink: &mut K,
 ) -> Result<(), Fault>
     requires usable { kernel.old.usable ≡ true }
     requires acts { kernel.old.acts < 2 ^ 31 }
     requires fits { Fits act }
-    ensures stands { OnOk result ((J : Journal) → Stands J kernel.old →
-        Stands (entry act (out kernel.old.hosts J act) ∷ J) kernel.new) }
-    ensures text { OnOk result ((J : Journal) → Stands J kernel.old →
-        Took (K.taken sink.old) (K.taken sink.new) text.new
-        (text.old ++ outcome_text (length J + 1) (out kernel.old.hosts J act))) }
-    ensures front { OnErr result ((J : Journal) → Stands J kernel.old →
-        TookFront (K.taken sink.old) (K.taken sink.new) text.new
-        (text.old ++ outcome_text (length J + 1) (out kernel.old.hosts J act))) }
+    requires device { AreTogether kernel.old (N.regs nic.old) (N.log nic.old) }
+    ensures made { OnOk result ((J : Journal) → Stands J kernel.old
+        → Agrees kernel.old.hosts J (N.regs nic.old) (N.log nic.old)
+        → IsMade kernel.old.hosts J act (K.taken sink.old) (K.taken sink.new) text.old text.new
+        kernel.new (N.regs nic.new) (N.log nic.old) (N.log nic.new)) }
+    ensures cut { OnErr result ((J : Journal) → Stands J kernel.old
+        → Agrees kernel.old.hosts J (N.regs nic.old) (N.log nic.old)
+        → IsCut kernel.old.hosts J act (K.taken sink.old) (K.taken sink.new) text.old text.new
+        (N.log nic.old) (N.log nic.new)) }
     ensures hosts { kernel.new.hosts ≡ kernel.old.hosts }
     ensures usable { OnOk result (kernel.new.usable ≡ true) }
     ensures acts { OnOk result (kernel.new.acts ≡ kernel.old.acts + 1) }
@@ -140,7 +152,7 @@ fn make_act<K: Sink>(
     ensures cause { IfErr result (λ fault.
         IsCaused fault ⊥ (Rose (K.faults sink.old) (K.faults sink.new))) }
 {
-    let stepped = kernel.step(alloc, &act, outcome);
+    let stepped = kernel.step(alloc, &act, nic, outcome);
     drop(act);
     stepped?;
     write_outcome(alloc, u64::from(kernel.acts()), outcome, text)?;

@@ -1,0 +1,44 @@
+-- What the device's registers and its log are where a run begins, and where it ends.
+use Rattle.std.specs.Prelude.{◌≡◌, ℕ, List, [], ◌++◌, None}
+use Rattle.ibos_nic.specs.declared.log.LogEntry.{LogEntry}
+use Rattle.ibos_nic.specs.declared.reg.Reg.{Reg}
+use Rattle.ibos_nic.specs.Registers.{Registers, reset}
+use Rattle.ibos_model.specs.Inputs.{Input, NoForm, NoHosts, Session, journal_of}
+use Rattle.ibos_model.specs.Journal.{Journal, frames}
+use Rattle.ibos_model.specs.Logs.{frames_in, sent_in, written_in}
+use Rattle.ibos_model.specs.Network.{network}
+use Rattle.ibos_net.specs.NetStanding.{AreRegisters}
+
+-- a device at reset: nothing came in or went out
+pub record IsReset (f : Registers) (l : List LogEntry) : Type 0 where
+  pub registers : (r : Reg) → f r ≡ reset r
+  pub log : l ≡ []
+
+-- the frames that came in are those of the journal that were heard, as they came, and none went out
+pub record IsLogOf (J : Journal) (l : List LogEntry) : Type 0 where
+  pub came : frames_in l ≡ frames J
+  pub sent : sent_in l ≡ []
+
+-- they are a front of them
+pub record IsLogFront (J : Journal) (l : List LogEntry) : Type 0 where
+  pub came : (more : List (List ℕ)) × (frames_in l ++ more ≡ frames J)
+  pub sent : sent_in l ≡ []
+
+-- the log of a run that was not cut off; where the inputs have no journal it is empty
+abbrev pub IsLogged : Input → List LogEntry → Type 0
+IsLogged NoForm l = l ≡ []
+IsLogged (NoHosts refusal) l = l ≡ []
+IsLogged (Session H reading) l = IsLogOf (journal_of H reading (written_in l)) l
+
+-- the log of any run
+abbrev pub IsLoggedFront : Input → List LogEntry → Type 0
+IsLoggedFront NoForm l = l ≡ []
+IsLoggedFront (NoHosts refusal) l = l ≡ []
+IsLoggedFront (Session H reading) l = IsLogFront (journal_of H reading (written_in l)) l
+
+-- where the inputs were read to their end, the registers are those of their journal
+abbrev pub AreRegistersOf : Input → Registers → List (List ℕ) → Type 0
+AreRegistersOf NoForm f W = Unit {0}
+AreRegistersOf (NoHosts refusal) f W = Unit {0}
+AreRegistersOf (Session H reading) f W = reading.refused ≡ None
+    → AreRegisters H.local (network (journal_of H reading W)) f
