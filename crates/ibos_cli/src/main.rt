@@ -1,5 +1,5 @@
-//! The program `ibos`: hands the words of its command line, files and standard output to the top
-//! call, and ends with its status.
+//! The program `ibos`: hands the words of its command line, files, a model of the network card and
+//! standard output to the top call, and ends with its status.
 #![tactic(auto)]
 
 mod faults;
@@ -7,6 +7,7 @@ mod files;
 mod stdout;
 
 use files::FileCabinet;
+use ibos_device::Model8254x;
 use ibos_kinds::{Bytes, Memory};
 use ibos_run::{Status, run};
 use std::alloc::Global;
@@ -17,6 +18,8 @@ use stdout::StdoutSink;
 
 #[cfg(test)]
 mod mediator_tests;
+#[cfg(test)]
+mod run_tests;
 #[cfg(test)]
 mod tests;
 
@@ -70,7 +73,14 @@ fn main(rt: HostRuntime) -> ExitCode {
         Err(WordsFault::Other) => return ExitCode::from(WORDS_REFUSED),
     };
     let mut cabinet = FileCabinet::new(&rt);
+    let mut nic = Model8254x::new();
     let mut sink = StdoutSink::new(&rt);
-    let status = run(rt.alloc(), words.as_slice(), &mut cabinet, &mut sink);
+    let status = run(
+        rt.alloc(),
+        words.as_slice(),
+        &mut cabinet,
+        &mut nic,
+        &mut sink,
+    );
     ExitCode::from(status.exit_number())
 }

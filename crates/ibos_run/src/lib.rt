@@ -12,3 +12,5 @@ mod transfer;
 pub use fault::Status;
 pub use run_words::run;
 
+#[cfg(test)]
+mod tests;
