@@ -149,6 +149,7 @@ fn what_the_device_wrote_is_told_and_not_what_came(rt: HostRuntime) -> Result<()
     let alloc = rt.alloc();
     let honest = text_over(&rt, &mut Model8254x::new())?;
     let noise = bytes(alloc, NOISE)?;
+    assert!(rt; noise.len() <= 1518);
     let noisy = text_over(&rt, &mut Noisy::new(noise))?;
     for (taken, came) in [(honest.taken(), CAME), (noisy.taken(), NOISE_CAME)] {
         let mut text = bytes(alloc, FRAME_TEXT)?;
