@@ -9,7 +9,8 @@ use std::alloc::Global;
 use std::process::Abort;
 use std::test::Fail;
 
-const HOSTS: &[u8] = b"self 192.0.2.10 02:00:00:00:00:01\ngateway 02:00:00:00:00:fe\nhost a.example 198.51.100.1\nhost b.example 198.51.100.2\n";
+const HOSTS: &[u8] =
+    b"self 192.0.2.10 02:00:00:00:00:01\ngateway 02:00:00:00:00:fe\nhost a.example 198.51.100.1\nhost b.example 198.51.100.2\n";
 
 const SCRIPT: &[u8] = b"user close 0\nuser close 1\n";
 
@@ -89,7 +90,13 @@ fn a_failed_call_ends_the_run(rt: HostRuntime) -> Result<(), Fail> {
     ] {
         let mut cabinet = cabinet(alloc, bytes(alloc, SCRIPT)?, read, read_most)?;
         let mut sink = sink(alloc, write, write_most)?;
-        let ended = run_new(&rt, &words(alloc)?, &mut cabinet, &mut Model8254x::new(), &mut sink);
+        let ended = run_new(
+            &rt,
+            &words(alloc)?,
+            &mut cabinet,
+            &mut Model8254x::new(),
+            &mut sink,
+        );
         assert_eq!(rt; ended, status);
         assert_eq!(rt; sink.taken(), text);
     }
@@ -114,7 +121,13 @@ fn text_goes_to_the_sink_in_large_pieces(rt: HostRuntime) -> Result<(), Fail> {
     }
     let mut cabinet = cabinet(alloc, script, NEVER, 1_000_000)?;
     let mut sink = sink(alloc, 1, 1_000_000)?;
-    let ended = run_new(&rt, &words(alloc)?, &mut cabinet, &mut Model8254x::new(), &mut sink);
+    let ended = run_new(
+        &rt,
+        &words(alloc)?,
+        &mut cabinet,
+        &mut Model8254x::new(),
+        &mut sink,
+    );
     assert_eq!(rt; ended, Status::WriteFault);
     let taken = sink.taken().len();
     assert!(rt; taken >= 65_536 && taken < 65_600);
@@ -122,17 +135,22 @@ fn text_goes_to_the_sink_in_large_pieces(rt: HostRuntime) -> Result<(), Fail> {
 }
 
 // Each page binds a flow, and the frame that comes is one of the first page's flow.
-const FRAME_SCRIPT: &[u8] = b"user open 0 http://a.example/\nuser open 1 http://b.example/\nnet 0.0 flow tcp\nnet 1.0 flow udp\ndev write 0x2800 0x100000\ndev write 0x2808 0x400\ndev rx 0 0 0\ndev write 0x0100 0x04008002\ndev write 0x2818 0x1\nwire in 0200000000010200000000fe08004500002b0001400040064e8dc6336401c000020a005080000000000100000001501820005ed50000616263\ndev bell rx\n";
+const FRAME_SCRIPT: &[u8] =
+    b"user open 0 http://a.example/\nuser open 1 http://b.example/\nnet 0.0 flow tcp\nnet 1.0 flow udp\ndev write 0x2800 0x100000\ndev write 0x2808 0x400\ndev rx 0 0 0\ndev write 0x0100 0x04008002\ndev write 0x2818 0x1\nwire in 0200000000010200000000fe08004500002b0001400040064e8dc6336401c000020a005080000000000100000001501820005ed50000616263\ndev bell rx\n";
 
-const FRAME_TEXT: &[u8] = b"1 ok\n1 0.0 opened http://a.example/\n2 ok\n2 1.0 opened http://b.example/\n3 ok\n3 0.0 flow 0 32768 198.51.100.1 80\n4 ok\n4 1.0 flow 0 33280 198.51.100.2 80\n5 ok\n6 ok\n7 ok\n8 ok\n9 ok\n10 ok\n10 wire heard\n11 ok\n11 dev lent 0 1\n";
+const FRAME_TEXT: &[u8] =
+    b"1 ok\n1 0.0 opened http://a.example/\n2 ok\n2 1.0 opened http://b.example/\n3 ok\n3 0.0 flow 0 32768 198.51.100.1 80\n4 ok\n4 1.0 flow 0 33280 198.51.100.2 80\n5 ok\n6 ok\n7 ok\n8 ok\n9 ok\n10 ok\n10 wire heard\n11 ok\n11 dev lent 0 1\n";
 
 // What came, and that the first page is told it.
-const CAME: &[u8] = b"11 0.0 frame 0 0200000000010200000000fe08004500002b0001400040064e8dc6336401c000020a005080000000000100000001501820005ed50000616263\nend 11\n";
+const CAME: &[u8] =
+    b"11 0.0 frame 0 0200000000010200000000fe08004500002b0001400040064e8dc6336401c000020a005080000000000100000001501820005ed50000616263\nend 11\n";
 
 // What the other device writes in its place, and that the page whose flow it names is told it.
-const NOISE: &[u8] = b"\x02\x00\x00\x00\x00\x01\x02\x00\x00\x00\x00\xfe\x08\x00E\x00\x00\x1e\x00\x02\x00\x00@\x11\x8e\x8d\xc63d\x02\xc0\x00\x02\x0a\x00P\x82\x00\x00\x0a\x00\x00hi";
+const NOISE: &[u8] =
+    b"\x02\x00\x00\x00\x00\x01\x02\x00\x00\x00\x00\xfe\x08\x00E\x00\x00\x1e\x00\x02\x00\x00@\x11\x8e\x8d\xc63d\x02\xc0\x00\x02\x0a\x00P\x82\x00\x00\x0a\x00\x00hi";
 
-const NOISE_CAME: &[u8] = b"11 1.0 frame 0 0200000000010200000000fe08004500001e0002000040118e8dc6336402c000020a00508200000a00006869\nend 11\n";
+const NOISE_CAME: &[u8] =
+    b"11 1.0 frame 0 0200000000010200000000fe08004500001e0002000040118e8dc6336402c000020a00508200000a00006869\nend 11\n";
 
 // The text of a run over a device.
 fn text_over<N: Nic>(rt: &(impl Abort + AllocGlobal), nic: &mut N) -> Result<MemSink, Memory> {

@@ -34,7 +34,7 @@ returns-in_err-make_act-in-Act-clause-stopped g c =
     let served = c.acts.invariant.served in
     let led = subst (λ (n : Next). Leads c.acts.script n c.next.new.self) c.in-Act.is c.in_ok-act.ensures in
     on_err _ _ (cut_stopped c.texts_are_fronts.ensures c.frames_are_fronts.ensures _ _ _ _ _ _ _ _ _ _ _ _ _ _ _ served.1 led.0
-        (c.in_err-make_act-in-Act.ensures.cut served.0 served.1.stands (agrees_there _ _ _ _ _ _ _ _ _ _ served.1)))
+    (c.in_err-make_act-in-Act.ensures.cut served.0 served.1.stands (agrees_there _ _ _ _ _ _ _ _ _ _ served.1)))
 
 pub returns-in-End-clause-served : goal.returns-in-End-clause-served
 returns-in-End-clause-served g c =
