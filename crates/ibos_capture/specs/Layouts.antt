@@ -5,8 +5,8 @@ use Rattle.ibos_capture.specs.declared.fields.Endian.{Endian}
 use Rattle.ibos_capture.specs.Fields.{number}
 use Rattle.ibos_capture.specs.Captures.{capture_in}
 
--- The bytes are entries with these frames: each has a time, the captured length, the original length
--- and the frame.
+-- The bytes are entries with these frames: each has a time, the captured length, the original
+-- length and the frame.
 pub data Entries (endian : Endian) : List ℕ → List (List ℕ) → Type 0 where
   Nothing : Entries endian [] []
   Before : (time captured original frame rest : List ℕ) (frames : List (List ℕ))

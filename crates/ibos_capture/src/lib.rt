@@ -1,8 +1,8 @@
 //! Packet captures (classic pcap, version 2.4): where each frame lies in the bytes of a file.
 //!
-//! A file is gone over once, from its header on, and no frame is copied: what is kept are a place
-//! and a length for each entry, 8 bytes in all. `Index::read` gives them, or the first fault and its
-//! entry.
+//! A file is gone over once, from its header on, and no frame is copied: what is kept is a place
+//! and a length for each entry, 8 bytes together. `Index::read` gives them, or the first fault and
+//! the number of its entry.
 #![tactic(auto)]
 
 mod fault;

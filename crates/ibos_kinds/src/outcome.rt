@@ -16,19 +16,40 @@ pub enum Head {
 #[derive(Debug, PartialEq, Eq, Drop)]
 pub enum Item {
     /// An instance was opened at this URL.
-    Opened { who: Instance, url: Bytes },
+    Opened {
+        who: Instance,
+        url: Bytes,
+    },
     /// An instance stays, and shows this URL of its origin.
-    Moved { who: Instance, url: Bytes },
+    Moved {
+        who: Instance,
+        url: Bytes,
+    },
     /// An instance ended.
-    Ended { who: Instance },
+    Ended {
+        who: Instance,
+    },
     /// A key that the user pressed for an instance: its byte, 0x0A for Enter and 0x08 for Back.
-    KeyTo { who: Instance, byte: u8 },
+    KeyTo {
+        who: Instance,
+        byte: u8,
+    },
     /// The user clicked on a cell of an instance's content.
-    ClickTo { who: Instance, row: u8, col: u8 },
+    ClickTo {
+        who: Instance,
+        row: u8,
+        col: u8,
+    },
     /// The cookies of an instance's origin, as `name=value` joined by `; `.
-    Cookies { who: Instance, text: Bytes },
+    Cookies {
+        who: Instance,
+        text: Bytes,
+    },
     /// A row of the screen, which the user sees, without the spaces at its end.
-    RowIs { row: u8, text: Bytes },
+    RowIs {
+        row: u8,
+        text: Bytes,
+    },
     /// A flow that an instance bound: its number, its port on this machine, and its other end.
     FlowIs {
         who: Instance,
@@ -43,13 +64,21 @@ pub enum Item {
         bytes: Bytes,
     },
     /// The value of a register that the driver reads.
-    ValueIs { value: u32 },
+    ValueIs {
+        value: u32,
+    },
     /// A receive buffer that is the driver's again, under a new handle.
-    LentIs { handle: Handle },
+    LentIs {
+        handle: Handle,
+    },
     /// What became of the frame that came from the wire.
-    VerdictIs { verdict: Verdict },
+    VerdictIs {
+        verdict: Verdict,
+    },
     /// A received frame that no instance gets, for the rule that it breaks.
-    Dropped { rule: Rule },
+    Dropped {
+        rule: Rule,
+    },
 }
 
 /// Items in their order, which contracts see as the list of them.

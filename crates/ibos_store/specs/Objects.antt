@@ -36,9 +36,9 @@ version_of (Some newest) = newest.version
 -- the newest version after one put more
 abbrev pub after_put : Option Newest → List ℕ → Newest
 after_put found bytes = record {
-    version = version_of found + 1;
-    len = length bytes;
-    bytes = Some bytes;
+  version = version_of found + 1;
+  len = length bytes;
+  bytes = Some bytes;
 }
 
 -- the newest version after its bytes were lost

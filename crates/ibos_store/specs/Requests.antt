@@ -27,12 +27,12 @@ key_in requests number =
 -- one ask more
 abbrev pub with_ask : List ℕ → Requests → Requests
 with_ask key requests = record {
-    count = requests.count + 1;
-    unanswered = requests.unanswered ++ record { number = requests.count; key = key } ∷ [];
+  count = requests.count + 1;
+  unanswered = requests.unanswered ++ record { number = requests.count; key = key } ∷ [];
 }
 
 -- a request is answered
 abbrev pub without : ℕ → Requests → Requests
 without number requests = record requests {
-    unanswered = filter (λ asked. not (is_numbered number asked)) requests.unanswered;
+  unanswered = filter (λ asked. not (is_numbered number asked)) requests.unanswered;
 }

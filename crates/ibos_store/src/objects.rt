@@ -45,12 +45,7 @@ impl Objects {
     }
 
     /// Stores a newest version, unless the origin would store too much, and answers its number.
-    pub(crate) fn put(
-        &mut self,
-        alloc: Global,
-        key: &[u8],
-        bytes: &[u8],
-    ) -> Result<u32, StoreFault>
+    pub(crate) fn put(&mut self, alloc: Global, key: &[u8], bytes: &[u8]) -> Result<u32, StoreFault>
         requires { version_of (newest_in self.old key.now) < 2 ^ 31 }
         ensures answer { Answers result (quota_answer key.now bytes.now self.old) }
         ensures ok { OnOk result (self.new ≡ with_put key.now bytes.now self.old) }
@@ -79,12 +74,7 @@ impl Objects {
     }
 
     /// A copy of the bytes under a key, if the newest version is that one.
-    pub(crate) fn copy(
-        &self,
-        alloc: Global,
-        key: &[u8],
-        version: u32,
-    ) -> Result<Bytes, StoreFault>
+    pub(crate) fn copy(&self, alloc: Global, key: &[u8], version: u32) -> Result<Bytes, StoreFault>
         ensures { Answers result (newest_answer version (newest_in self.now key.now)) }
     {
         match self.objects.get(key) {

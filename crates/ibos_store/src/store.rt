@@ -35,8 +35,8 @@ impl Model for Store {
     ghost Value = { StoreState };
 
     ghost view = { λ s. record {
-        origins = origin_objects s.origins.entries;
-        requests = s.requests;
+      origins = origin_objects s.origins.entries;
+      requests = s.requests;
     } };
 }
 
@@ -104,12 +104,7 @@ impl Store {
     }
 
     // Stores a newest version, unless the origin would store too much.
-    fn put_newest(
-        &mut self,
-        origin: &[u8],
-        key: &[u8],
-        bytes: &[u8],
-    ) -> Result<u32, StoreFault>
+    fn put_newest(&mut self, origin: &[u8], key: &[u8], bytes: &[u8]) -> Result<u32, StoreFault>
         requires { version_of (object_at self.old origin.now key.now) < 2 ^ 31 }
         ensures answer { Answers result
             (quota_answer key.now bytes.now (objects_of self.old origin.now)) }
@@ -138,7 +133,8 @@ impl Store {
         ensures requests { self.new.requests ≡ self.old.requests }
         ensures err { OnErr result (self.new ≡ self.old) }
     {
-        self.origins.insert(Vec::from_slice(self.alloc, origin)?, objects)?;
+        self.origins
+            .insert(Vec::from_slice(self.alloc, origin)?, objects)?;
         Ok(())
     }
 
