@@ -38,38 +38,6 @@ given-test true false old = refl
 given-test false true old = refl
 given-test false false old = refl
 
-or-false : (a b : Bool) → (a || (b || false)) ≡ (a || b)
-or-false true b = refl
-or-false false true = refl
-or-false false false = refl
-
-pub giving-step : KeepsGiven → (all left rest : List Held) (h : Held) (first now next : Names) → left ≡ rest ++ h ∷ [] → IsGiving all left first now → IsClaimed now next h.name false → IsGiving all rest first next
-giving-step keeps all left rest h first now next is giving claimed = record {
-  held = let are = giving.held in (are.0, back are.0 rest (subst (AreAtHand now are.0) is are.1));
-  names = λ name. ap (λ t. cond (has_name rest name) false t) (claimed.taken_names name) ∙ given-test (same_name name h.name) (has_name rest name) (is_taken now name)
-      ∙ ap (λ b. cond b false (is_taken now name)) (sym (or-false (has_name rest name) (same_name name h.name)) ∙ sym (has_name-append rest (h ∷ []) name) ∙ sym (ap (λ xs. has_name xs name) is)) ∙ giving.names name;
-  places = λ name. claimed.places name ∙ giving.places name;
-  areas = claimed.areas ∙ giving.areas;
-  hands = λ mem more hands. hands-given now next mem (rest ++ more) h claimed (first_of mem more (subst (λ xs. AreAtHand now mem (xs ++ more)) is (giving.hands mem more hands)));
-  whole = λ m mem regs out hands mediates.
-      let at = first_of mem [] (subst (λ xs. AreAtHand now mem (xs ++ [])) is (giving.hands mem [] (subst (AreAtHand first mem) (sym (append-nil all)) hands))) in
-      keeps m mem regs now next out h at.0 at.1 claimed (giving.whole m mem regs out hands mediates);
-}
-  where
-    -- the last of a list comes first
-    first_of : (mem : Memory) (more : List Held) → AreAtHand now mem ((rest ++ h ∷ []) ++ more) → AreAtHand now mem (h ∷ (rest ++ more))
-    first_of mem more hands = rotated now mem rest (h ∷ []) more (subst (AreAtHand now mem) (append_assoc rest (h ∷ []) more) hands)
-
-    back : (mem : Memory) (xs : List Held) → AreAtHand now mem (xs ++ h ∷ []) → AreAtHand next mem xs
-    back mem xs hands = hands-given now next mem xs h claimed (swapped now mem xs (h ∷ []) hands)
-
--- the last is the pool's
-pub giving-loan : (all left rest : List Held) (h : Held) (first now : Names) → left ≡ rest ++ h ∷ [] → IsGiving all left first now → IsLoanOf now h
-giving-loan all left rest h first now is giving =
-    let are = giving.held in
-    let hands = swapped now are.0 rest (h ∷ []) (subst (AreAtHand now are.0) is are.1) in
-    hands.0
-
 -- a list at the end of those that are left is given
 pub giving-many : (all left xs ys : List Held) (first now next : Names) → left ≡ xs ++ ys → IsGiving all left first now → AreReturned ys now next
     → ((mem : Memory) (more : List Held) → AreAtHand now mem (ys ++ more) → AreAtHand next mem more)
@@ -92,3 +60,21 @@ giving-many all left xs ys first now next is giving returned gives keeps = recor
 
 pub giving-held : (all left xs ys : List Held) (first now : Names) → left ≡ xs ++ ys → IsGiving all left first now → AreHeld now ys
 giving-held all left xs ys first now is giving = let are = giving.held in (are.0, back_of now are.0 xs ys (subst (AreAtHand now are.0) is are.1))
+
+-- the last is the pool's
+pub giving-loan : (all left rest : List Held) (h : Held) (first now : Names) → left ≡ rest ++ h ∷ [] → IsGiving all left first now → IsLoanOf now h
+giving-loan all left rest h first now is giving =
+    let are = giving.held in
+    let hands = swapped now are.0 rest (h ∷ []) (subst (AreAtHand now are.0) is are.1) in
+    hands.0
+
+one-name : (same old : Bool) → cond same false old ≡ cond (same || false) false old
+one-name true old = refl
+one-name false old = refl
+
+-- the last is given
+pub giving-step : KeepsGiven → (all left rest : List Held) (h : Held) (first now next : Names) → left ≡ rest ++ h ∷ [] → IsGiving all left first now → IsClaimed now next h.name false → IsGiving all rest first next
+giving-step keeps all left rest h first now next is giving claimed = giving-many all left rest (h ∷ []) first now next is giving
+    (record { names = λ name. claimed.taken_names name ∙ one-name (same_name name h.name) (is_taken now name); places = claimed.places; areas = claimed.areas })
+    (λ mem more hands. hands-given now next mem more h claimed hands)
+    (λ m mem regs out hands mediates. keeps m mem regs now next out h hands.0 hands.1 claimed mediates)

@@ -10,3 +10,6 @@ mod serving;
 pub use inboxes::Inboxes;
 pub use laws::{bells_agree, fresh_areas, hands_are_parted, inboxes_keep_their_frames};
 pub use serving::serve;
+
+#[cfg(test)]
+mod tests;

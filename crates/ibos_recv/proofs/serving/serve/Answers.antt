@@ -1,4 +1,5 @@
 use Rattle.std.proofs.Common.{◌≡◌, ◌<◌, ℕ, suc, List, [], ◌∷◌, ◌++◌, length, refl, sym, ◌∙◌, ap, subst, arith}
+use Rattle.std.proofs.lemmas.Result.{err_from_is_err_and}
 use Rattle.ibos_mediate.specs.Frames.{Arrival, after_bell, arrivals}
 use Rattle.ibos_mediate.specs.Relation.{IsAtDevice}
 use Rattle.ibos_flow.specs.Flows.{bound_by}
@@ -71,8 +72,9 @@ served-preserved c =
       head = told.head ∙ c.served.invariant.head;
     }
 
-pub returns-in_err-told-clause-done : goal.returns-in_err-told-clause-done
-returns-in_err-told-clause-done c =
+-- out of memory: what holds all along
+pub returns-in_err-told : goal.returns-in_err-told
+returns-in_err-told c =
     let laws : Laws = record {
       memory = c.other_changes_keep_the_relation.ensures.memory;
       device = c.other_changes_keep_the_relation.ensures.device;
@@ -94,182 +96,25 @@ returns-in_err-told-clause-done c =
     let step : IsStep c.in-Some.loan a now next c.rx_take.new.mem = step-of first now c.in-Some.loan a c.rx_take.new.self c.rx_take.new.pool c.give.new.self c.rx_take.new.mem c.tell-told.new.mem c.tell-told.new.inboxes
     taken.taken taken.kept taken.marked taken.arrival taken.bell taken.is_pools taken.hands taken.keeps taken.same_pool c.tell-told.ensures.filled c.tell-told.ensures.open c.tell-told.ensures.held c.give.ensures.claimed in
     let serving = serving-step laws c.in-Some.loan a first now next c.rx_take.new.mem c.served.invariant.serving step in
-    serving.done
-
-pub returns-in_err-told-clause-unsent : goal.returns-in_err-told-clause-unsent
-returns-in_err-told-clause-unsent c =
-    let laws : Laws = record {
-      memory = c.other_changes_keep_the_relation.ensures.memory;
-      device = c.other_changes_keep_the_relation.ensures.device;
-      unheld = c.other_changes_keep_the_relation.ensures.unheld;
-      given_owned = c.gifts_keep_the_relation.ensures.owned;
-      given_unheld = c.gifts_keep_the_relation.ensures.unheld;
-      others = c.bells_end.ensures.others;
-      counted = c.frames_are_counted.ensures.arrivals;
-      completed = c.other_changes_keep_the_frames.ensures.completed;
-      taken_unsent = c.takes_end_a_frame.ensures.receive_unsent;
-      unsent = c.other_changes_keep_the_frames.ensures.unsent;
-      arrivals = c.other_changes_keep_the_frames.ensures.arrivals;
-    } in
-    let first : State = record { med = c.args.med.now; pool = c.args.pool.now; mem = c.args.mem.now; inboxes = c.args.inboxes.now } in
-    let now : State = record { med = c.served.med; pool = c.served.pool; mem = c.served.mem; inboxes = c.served.inboxes } in
-    let next : State = record { med = c.rx_take.new.self; pool = c.give.new.self; mem = c.tell-told.new.mem; inboxes = c.tell-told.new.inboxes } in
-    let a : Arrival = record { handle = c.in-Some.handle; bytes = bytes_at c.rx_take.new.mem (address_of c.in-Some.loan.place) c.in-Some.len } in
-    let taken = c.in-Some.ensures in
-    let step : IsStep c.in-Some.loan a now next c.rx_take.new.mem = step-of first now c.in-Some.loan a c.rx_take.new.self c.rx_take.new.pool c.give.new.self c.rx_take.new.mem c.tell-told.new.mem c.tell-told.new.inboxes
-    taken.taken taken.kept taken.marked taken.arrival taken.bell taken.is_pools taken.hands taken.keeps taken.same_pool c.tell-told.ensures.filled c.tell-told.ensures.open c.tell-told.ensures.held c.give.ensures.claimed in
-    let serving = serving-step laws c.in-Some.loan a first now next c.rx_take.new.mem c.served.invariant.serving step in
-    serving.unsent
-
-pub returns-in_err-told-clause-memory : goal.returns-in_err-told-clause-memory
-returns-in_err-told-clause-memory c =
-    let laws : Laws = record {
-      memory = c.other_changes_keep_the_relation.ensures.memory;
-      device = c.other_changes_keep_the_relation.ensures.device;
-      unheld = c.other_changes_keep_the_relation.ensures.unheld;
-      given_owned = c.gifts_keep_the_relation.ensures.owned;
-      given_unheld = c.gifts_keep_the_relation.ensures.unheld;
-      others = c.bells_end.ensures.others;
-      counted = c.frames_are_counted.ensures.arrivals;
-      completed = c.other_changes_keep_the_frames.ensures.completed;
-      taken_unsent = c.takes_end_a_frame.ensures.receive_unsent;
-      unsent = c.other_changes_keep_the_frames.ensures.unsent;
-      arrivals = c.other_changes_keep_the_frames.ensures.arrivals;
-    } in
-    let first : State = record { med = c.args.med.now; pool = c.args.pool.now; mem = c.args.mem.now; inboxes = c.args.inboxes.now } in
-    let now : State = record { med = c.served.med; pool = c.served.pool; mem = c.served.mem; inboxes = c.served.inboxes } in
-    let next : State = record { med = c.rx_take.new.self; pool = c.give.new.self; mem = c.tell-told.new.mem; inboxes = c.tell-told.new.inboxes } in
-    let a : Arrival = record { handle = c.in-Some.handle; bytes = bytes_at c.rx_take.new.mem (address_of c.in-Some.loan.place) c.in-Some.len } in
-    let taken = c.in-Some.ensures in
-    let step : IsStep c.in-Some.loan a now next c.rx_take.new.mem = step-of first now c.in-Some.loan a c.rx_take.new.self c.rx_take.new.pool c.give.new.self c.rx_take.new.mem c.tell-told.new.mem c.tell-told.new.inboxes
-    taken.taken taken.kept taken.marked taken.arrival taken.bell taken.is_pools taken.hands taken.keeps taken.same_pool c.tell-told.ensures.filled c.tell-told.ensures.open c.tell-told.ensures.held c.give.ensures.claimed in
-    let serving = serving-step laws c.in-Some.loan a first now next c.rx_take.new.mem c.served.invariant.serving step in
-    serving.memory
-
-pub returns-in_err-told-clause-device : goal.returns-in_err-told-clause-device
-returns-in_err-told-clause-device c =
-    let laws : Laws = record {
-      memory = c.other_changes_keep_the_relation.ensures.memory;
-      device = c.other_changes_keep_the_relation.ensures.device;
-      unheld = c.other_changes_keep_the_relation.ensures.unheld;
-      given_owned = c.gifts_keep_the_relation.ensures.owned;
-      given_unheld = c.gifts_keep_the_relation.ensures.unheld;
-      others = c.bells_end.ensures.others;
-      counted = c.frames_are_counted.ensures.arrivals;
-      completed = c.other_changes_keep_the_frames.ensures.completed;
-      taken_unsent = c.takes_end_a_frame.ensures.receive_unsent;
-      unsent = c.other_changes_keep_the_frames.ensures.unsent;
-      arrivals = c.other_changes_keep_the_frames.ensures.arrivals;
-    } in
-    let first : State = record { med = c.args.med.now; pool = c.args.pool.now; mem = c.args.mem.now; inboxes = c.args.inboxes.now } in
-    let now : State = record { med = c.served.med; pool = c.served.pool; mem = c.served.mem; inboxes = c.served.inboxes } in
-    let next : State = record { med = c.rx_take.new.self; pool = c.give.new.self; mem = c.tell-told.new.mem; inboxes = c.tell-told.new.inboxes } in
-    let a : Arrival = record { handle = c.in-Some.handle; bytes = bytes_at c.rx_take.new.mem (address_of c.in-Some.loan.place) c.in-Some.len } in
-    let taken = c.in-Some.ensures in
-    let step : IsStep c.in-Some.loan a now next c.rx_take.new.mem = step-of first now c.in-Some.loan a c.rx_take.new.self c.rx_take.new.pool c.give.new.self c.rx_take.new.mem c.tell-told.new.mem c.tell-told.new.inboxes
-    taken.taken taken.kept taken.marked taken.arrival taken.bell taken.is_pools taken.hands taken.keeps taken.same_pool c.tell-told.ensures.filled c.tell-told.ensures.open c.tell-told.ensures.held c.give.ensures.claimed in
-    let serving = serving-step laws c.in-Some.loan a first now next c.rx_take.new.mem c.served.invariant.serving step in
-    serving.device
-
-pub returns-in_err-told-clause-owned : goal.returns-in_err-told-clause-owned
-returns-in_err-told-clause-owned c =
-    let laws : Laws = record {
-      memory = c.other_changes_keep_the_relation.ensures.memory;
-      device = c.other_changes_keep_the_relation.ensures.device;
-      unheld = c.other_changes_keep_the_relation.ensures.unheld;
-      given_owned = c.gifts_keep_the_relation.ensures.owned;
-      given_unheld = c.gifts_keep_the_relation.ensures.unheld;
-      others = c.bells_end.ensures.others;
-      counted = c.frames_are_counted.ensures.arrivals;
-      completed = c.other_changes_keep_the_frames.ensures.completed;
-      taken_unsent = c.takes_end_a_frame.ensures.receive_unsent;
-      unsent = c.other_changes_keep_the_frames.ensures.unsent;
-      arrivals = c.other_changes_keep_the_frames.ensures.arrivals;
-    } in
-    let first : State = record { med = c.args.med.now; pool = c.args.pool.now; mem = c.args.mem.now; inboxes = c.args.inboxes.now } in
-    let now : State = record { med = c.served.med; pool = c.served.pool; mem = c.served.mem; inboxes = c.served.inboxes } in
-    let next : State = record { med = c.rx_take.new.self; pool = c.give.new.self; mem = c.tell-told.new.mem; inboxes = c.tell-told.new.inboxes } in
-    let a : Arrival = record { handle = c.in-Some.handle; bytes = bytes_at c.rx_take.new.mem (address_of c.in-Some.loan.place) c.in-Some.len } in
-    let taken = c.in-Some.ensures in
-    let step : IsStep c.in-Some.loan a now next c.rx_take.new.mem = step-of first now c.in-Some.loan a c.rx_take.new.self c.rx_take.new.pool c.give.new.self c.rx_take.new.mem c.tell-told.new.mem c.tell-told.new.inboxes
-    taken.taken taken.kept taken.marked taken.arrival taken.bell taken.is_pools taken.hands taken.keeps taken.same_pool c.tell-told.ensures.filled c.tell-told.ensures.open c.tell-told.ensures.held c.give.ensures.claimed in
-    let serving = serving-step laws c.in-Some.loan a first now next c.rx_take.new.mem c.served.invariant.serving step in
-    serving.owned
-
-pub returns-in_err-told-clause-unheld : goal.returns-in_err-told-clause-unheld
-returns-in_err-told-clause-unheld c =
-    let laws : Laws = record {
-      memory = c.other_changes_keep_the_relation.ensures.memory;
-      device = c.other_changes_keep_the_relation.ensures.device;
-      unheld = c.other_changes_keep_the_relation.ensures.unheld;
-      given_owned = c.gifts_keep_the_relation.ensures.owned;
-      given_unheld = c.gifts_keep_the_relation.ensures.unheld;
-      others = c.bells_end.ensures.others;
-      counted = c.frames_are_counted.ensures.arrivals;
-      completed = c.other_changes_keep_the_frames.ensures.completed;
-      taken_unsent = c.takes_end_a_frame.ensures.receive_unsent;
-      unsent = c.other_changes_keep_the_frames.ensures.unsent;
-      arrivals = c.other_changes_keep_the_frames.ensures.arrivals;
-    } in
-    let first : State = record { med = c.args.med.now; pool = c.args.pool.now; mem = c.args.mem.now; inboxes = c.args.inboxes.now } in
-    let now : State = record { med = c.served.med; pool = c.served.pool; mem = c.served.mem; inboxes = c.served.inboxes } in
-    let next : State = record { med = c.rx_take.new.self; pool = c.give.new.self; mem = c.tell-told.new.mem; inboxes = c.tell-told.new.inboxes } in
-    let a : Arrival = record { handle = c.in-Some.handle; bytes = bytes_at c.rx_take.new.mem (address_of c.in-Some.loan.place) c.in-Some.len } in
-    let taken = c.in-Some.ensures in
-    let step : IsStep c.in-Some.loan a now next c.rx_take.new.mem = step-of first now c.in-Some.loan a c.rx_take.new.self c.rx_take.new.pool c.give.new.self c.rx_take.new.mem c.tell-told.new.mem c.tell-told.new.inboxes
-    taken.taken taken.kept taken.marked taken.arrival taken.bell taken.is_pools taken.hands taken.keeps taken.same_pool c.tell-told.ensures.filled c.tell-told.ensures.open c.tell-told.ensures.held c.give.ensures.claimed in
-    let serving = serving-step laws c.in-Some.loan a first now next c.rx_take.new.mem c.served.invariant.serving step in
-    serving.unheld
-
-pub returns-in_err-told-clause-hands : goal.returns-in_err-told-clause-hands
-returns-in_err-told-clause-hands c =
-    let laws : Laws = record {
-      memory = c.other_changes_keep_the_relation.ensures.memory;
-      device = c.other_changes_keep_the_relation.ensures.device;
-      unheld = c.other_changes_keep_the_relation.ensures.unheld;
-      given_owned = c.gifts_keep_the_relation.ensures.owned;
-      given_unheld = c.gifts_keep_the_relation.ensures.unheld;
-      others = c.bells_end.ensures.others;
-      counted = c.frames_are_counted.ensures.arrivals;
-      completed = c.other_changes_keep_the_frames.ensures.completed;
-      taken_unsent = c.takes_end_a_frame.ensures.receive_unsent;
-      unsent = c.other_changes_keep_the_frames.ensures.unsent;
-      arrivals = c.other_changes_keep_the_frames.ensures.arrivals;
-    } in
-    let first : State = record { med = c.args.med.now; pool = c.args.pool.now; mem = c.args.mem.now; inboxes = c.args.inboxes.now } in
-    let now : State = record { med = c.served.med; pool = c.served.pool; mem = c.served.mem; inboxes = c.served.inboxes } in
-    let next : State = record { med = c.rx_take.new.self; pool = c.give.new.self; mem = c.tell-told.new.mem; inboxes = c.tell-told.new.inboxes } in
-    let a : Arrival = record { handle = c.in-Some.handle; bytes = bytes_at c.rx_take.new.mem (address_of c.in-Some.loan.place) c.in-Some.len } in
-    let taken = c.in-Some.ensures in
-    let step : IsStep c.in-Some.loan a now next c.rx_take.new.mem = step-of first now c.in-Some.loan a c.rx_take.new.self c.rx_take.new.pool c.give.new.self c.rx_take.new.mem c.tell-told.new.mem c.tell-told.new.inboxes
-    taken.taken taken.kept taken.marked taken.arrival taken.bell taken.is_pools taken.hands taken.keeps taken.same_pool c.tell-told.ensures.filled c.tell-told.ensures.open c.tell-told.ensures.held c.give.ensures.claimed in
-    let serving = serving-step laws c.in-Some.loan a first now next c.rx_take.new.mem c.served.invariant.serving step in
-    serving.hands
-
-pub returns-in_err-told-clause-served : goal.returns-in_err-told-clause-served
-returns-in_err-told-clause-served c =
-    let laws : Laws = record {
-      memory = c.other_changes_keep_the_relation.ensures.memory;
-      device = c.other_changes_keep_the_relation.ensures.device;
-      unheld = c.other_changes_keep_the_relation.ensures.unheld;
-      given_owned = c.gifts_keep_the_relation.ensures.owned;
-      given_unheld = c.gifts_keep_the_relation.ensures.unheld;
-      others = c.bells_end.ensures.others;
-      counted = c.frames_are_counted.ensures.arrivals;
-      completed = c.other_changes_keep_the_frames.ensures.completed;
-      taken_unsent = c.takes_end_a_frame.ensures.receive_unsent;
-      unsent = c.other_changes_keep_the_frames.ensures.unsent;
-      arrivals = c.other_changes_keep_the_frames.ensures.arrivals;
-    } in
-    let first : State = record { med = c.args.med.now; pool = c.args.pool.now; mem = c.args.mem.now; inboxes = c.args.inboxes.now } in
-    let now : State = record { med = c.served.med; pool = c.served.pool; mem = c.served.mem; inboxes = c.served.inboxes } in
-    let next : State = record { med = c.rx_take.new.self; pool = c.give.new.self; mem = c.tell-told.new.mem; inboxes = c.tell-told.new.inboxes } in
-    let a : Arrival = record { handle = c.in-Some.handle; bytes = bytes_at c.rx_take.new.mem (address_of c.in-Some.loan.place) c.in-Some.len } in
-    let taken = c.in-Some.ensures in
-    let step : IsStep c.in-Some.loan a now next c.rx_take.new.mem = step-of first now c.in-Some.loan a c.rx_take.new.self c.rx_take.new.pool c.give.new.self c.rx_take.new.mem c.tell-told.new.mem c.tell-told.new.inboxes
-    taken.taken taken.kept taken.marked taken.arrival taken.bell taken.is_pools taken.hands taken.keeps taken.same_pool c.tell-told.ensures.filled c.tell-told.ensures.open c.tell-told.ensures.held c.give.ensures.claimed in
-    let serving = serving-step laws c.in-Some.loan a first now next c.rx_take.new.mem c.served.invariant.serving step in
-    serving.served
+    let out = err_from_is_err_and c.from_residual.result c.from_residual.ensures.1 in
+    record {
+      head = c.in_err-told.ensures.head ∙ c.served.invariant.head;
+      items = rw out.1 tt;
+      frames = rw out.1 tt;
+      bell = rw out.1 tt;
+      arrivals = rw out.1 tt;
+      done = serving.done;
+      transmit = serving.transmit;
+      unsent = serving.unsent;
+      «open» = serving.opened;
+      held = serving.held;
+      memory = serving.memory;
+      device = serving.device;
+      owned = serving.owned;
+      unheld = serving.unheld;
+      hands = serving.hands;
+      served = serving.served;
+    }
 
 pub returns-clause-items : goal.returns-clause-items
 returns-clause-items c =
