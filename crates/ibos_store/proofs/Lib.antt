@@ -2,3 +2,4 @@ pub mod Sums
 pub mod Finding
 pub mod Putting
 pub mod Places
+pub mod Answered

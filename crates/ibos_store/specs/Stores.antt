@@ -1,6 +1,6 @@
 -- All stored objects by their origins, and all requests by their instances.
 use Rattle.std.specs.Prelude.{◌≡◌, ◌≢◌, ℕ, ◌+◌, ◌*◌, List, [], ◌∷◌, map, bytes_eq, ◌&&◌, nat_lt}
-use Rattle.std.specs.Prelude.{Option, None, option_and_then, if◌then◌else◌}
+use Rattle.std.specs.Prelude.{Option, Some, None, option_and_then, if◌then◌else◌}
 use Rattle.std.specs.List.{slice_index_or}
 use Rattle.std.specs.Global.{Vec}
 use Rattle.ibos_kinds.specs.declared.names.Instance.{Instance}
@@ -29,6 +29,11 @@ objects_of store origin = objects_in store.origins origin
 -- what stands under a key of an origin
 abbrev pub object_at : StoreState → List ℕ → List ℕ → Option Newest
 object_at store origin key = newest_in (objects_of store origin) key
+
+-- the newest version under a key of an origin is that one, and has these bytes
+abbrev pub IsNewest : StoreState → List ℕ → List ℕ → ℕ → List ℕ → Type 0
+IsNewest store origin key version bytes = (len : ℕ) × (object_at store origin key
+    ≡ Some (record { version = version; len = len; bytes = Some bytes }))
 
 -- an origin's objects are those now, and all others' are as before
 abbrev pub PutsObjects : List OriginObjects → List OriginObjects → List ℕ → List KeyObject → Type 0

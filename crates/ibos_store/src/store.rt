@@ -1,6 +1,6 @@
 // All stored objects and requests.
 ghost use Rattle.std.specs.Prelude.{◌≡◌, ◌≢◌, List, ℕ, ◌<◌, ◌^◌, [], None, Some, IfSome, OnOk, OnErr};
-ghost use Rattle.std.specs.Prelude.{if◌then◌else◌, bytes_eq};
+ghost use Rattle.std.specs.Prelude.{IfOk, IsSomeAnd};
 ghost use Rattle.std.specs.Option.{option_map};
 ghost use Rattle.ibos_kinds.specs.declared.names.Instance.{Instance};
 ghost use Rattle.ibos_store.specs.Objects.{after_loss, after_put, version_of, with_loss, with_put};
@@ -41,7 +41,7 @@ impl Model for Store {
 }
 
 impl Store {
-    ghost use Rattle.ibos_store.specs.Stores.{key_of, object_at, objects_in, objects_of};
+    ghost use Rattle.ibos_store.specs.Stores.{IsNewest, key_of, object_at, objects_of};
     ghost use Rattle.ibos_store.specs.Stores.{PutsNewest, PutsObjects, requests_of, SameRequests};
 
     /// Nothing was put, and no instance was added. Takes no memory.
@@ -173,6 +173,8 @@ impl Store {
     ) -> Result<Bytes, StoreFault>
         ensures answer { Answers result (label_answer (key_of self.old who request) own.now
             origin.now key.now version (object_at self.old origin.now key.now)) }
+        ensures sealed { IfOk result (λ bytes. IsSomeAnd (key_of self.old who request)
+            (λ asked. IsNewest self.old own.now asked version bytes)) }
         ensures own { OnOk result (requests_of self.new who
             ≡ option_map (without request) (requests_of self.old who)) }
         ensures once { OnOk result (key_of self.new who request ≡ None) }
