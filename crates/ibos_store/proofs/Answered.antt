@@ -11,7 +11,6 @@ use Rattle.ibos_store.proofs.Sums.{same_texts}
 same_number : (a b : ℕ) → (a == b) ≡ true → a ≡ b
 same_number a b is = grind (arith, nat_tests)
 
-
 bytes_given : (held : Option (List ℕ)) (bytes : List ℕ) → bytes_answer held ≡ Ok bytes → held ≡ Some bytes
 bytes_given None bytes given = cc
 bytes_given (Some held) bytes given = cc
