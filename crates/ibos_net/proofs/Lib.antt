@@ -1,0 +1,12 @@
+pub mod Words
+pub mod AtDevice
+pub mod RegisterWritten
+pub mod Outcomes
+pub mod OwnAddress
+pub mod PostMade
+pub mod Arrivals
+pub mod AreasGrown
+pub mod BellItems
+pub mod RingsBelled
+pub mod BellServed
+pub mod Beginning

@@ -1,5 +1,5 @@
 -- A net half that stands for what a journal says of flows, frames and rings.
-use Rattle.std.specs.Prelude.{ℕ, ◌≡◌, Bool, true, false, List, []}
+use Rattle.std.specs.Prelude.{ℕ, ◌≡◌, ◌≢◌, Bool, true, false, List, [], ◌∷◌, length, None}
 use Rattle.ibos_kinds.specs.declared.act.Act.{Act}
 use Rattle.ibos_kinds.specs.declared.act.Act.TheVariants.{Bind, Unbind, Done, RegRead, RegWrite}
 use Rattle.ibos_kinds.specs.declared.act.Act.TheVariants.{RxPost, RxBell, WireIn}
@@ -9,31 +9,80 @@ use Rattle.ibos_kinds.specs.declared.names.Local.{Local}
 use Rattle.ibos_kinds.specs.declared.outcome.Item.TheVariants.{VerdictIs}
 use Rattle.ibos_kinds.specs.declared.outcome.Outcome.{Outcome}
 use Rattle.ibos_kinds.specs.Bells.{at, bell}
+use Rattle.ibos_pool.specs.declared.name.Ring.{Ring}
+use Rattle.ibos_pool.specs.declared.name.Ring.TheVariants.{Receive}
+use Rattle.ibos_pool.specs.Hands.{AreAtHand}
+use Rattle.ibos_pool.specs.Memory.{Memory}
+use Rattle.ibos_pool.specs.Names.{Names}
 use Rattle.ibos_nic.specs.declared.log.LogEntry.{LogEntry}
+use Rattle.ibos_nic.specs.declared.reg.Reg.{Reg}
 use Rattle.ibos_nic.specs.Registers.{Registers}
 use Rattle.ibos_nic.specs.Rules.{write_rule}
+use Rattle.ibos_mediate.specs.Frames.{received_frames}
+use Rattle.ibos_mediate.specs.Mediated.{Mediated, names_of, ring_of}
+use Rattle.ibos_mediate.specs.Relation.{AreOwned, AreUnheld, IsInMemory, completed}
+use Rattle.ibos_flow.specs.Flows.{Table, bound_by}
+use Rattle.ibos_recv.specs.Inboxes.{Inboxes, frames_of, held_in, inbox_by}
 use Rattle.ibos_model.specs.Journal.{frame_of, is_ok}
-use Rattle.ibos_model.specs.Logs.{got_for, log_after}
+use Rattle.ibos_model.specs.Logs.{Loses, got_for, log_after}
 use Rattle.ibos_model.specs.Network.{Network, bound_to, ear_with, network_by, unread_count}
 use Rattle.ibos_model.specs.Outcomes.{accepted, answer, bind_outcome, done_outcome, post_outcome}
 use Rattle.ibos_model.specs.Outcomes.{read_outcome, unbind_outcome}
-use Rattle.ibos_model.specs.Rings.{handles_after, register, values_in, verdict_at}
+use Rattle.ibos_model.specs.Rings.{Rings, handles_after, register, values_in, verdict_at}
 use Rattle.ibos_model.specs.Tabs.{Life, Alive}
 
+-- what the net half keeps: the mediator, the memory, the names of its buffers, the flows and the
+-- inboxes
 pub record NetState : Type 0 where
-  pub areas : ℕ
-  pub posts : ℕ
+  pub med : Mediated
+  pub mem : Memory
+  pub names : Names
+  pub flows : Table
+  pub inboxes : Inboxes
 
+-- area 0 and one for each instance that started
 abbrev pub areas_of : NetState → ℕ
-areas_of t = t.areas
+areas_of t = length t.mem
 
+-- how many receive buffers were posted
 abbrev pub posts_of : NetState → ℕ
-posts_of t = t.posts
+posts_of t = t.med.receive.values.posted
 
+-- What is so at all times, also once memory was wanted: each buffer is held by the device, by an
+-- inbox or by none, and who hears has an inbox.
+pub record IsSafe (t : NetState) : Type 0 where
+  pub memory : IsInMemory t.med t.mem
+  pub owned : (ring : Ring) → AreOwned ring (ring_of t.med ring) t.names
+  pub unheld : AreUnheld t.med t.names t.mem
+  pub hands : AreAtHand t.names t.mem (held_in t.inboxes)
+  pub beside : (p : Instance) → bound_by t.flows p ≢ None → inbox_by t.inboxes p ≢ None
+
+-- The counts and names are the mediator's. What the device heard is what it is done with, and what
+-- is pending what it received since; nothing is posted to be sent yet.
+pub record RingsStand (rings : Rings) (frames : List (List ℕ)) (m : Mediated)
+    (mem : Memory) : Type 0 where
+  pub receive : rings.receive ≡ m.receive.values
+  pub transmit : rings.transmit ≡ m.transmit.values
+  pub names : rings.names ≡ names_of m.receive
+  pub turns : rings.turns ≡ m.turns
+  pub heard : rings.heard ≡ completed Receive mem m.receive
+  pub pending : frames ≡ received_frames mem m.receive
+  pub unposted : m.transmit.values.posted ≡ 0
+
+-- Whoever lives hears by the flows that it bound, and its frames lie in its inbox. No one else has
+-- flows or an inbox.
 -- life: whether an instance lives; remote: where its origin is
-pub record NetStands (local : Local) (life : Instance → Life) (remote : Instance → Endpoint)
-    (n : Network) (t : NetState) (regs : Registers) : Type 0 where
-  pub never : ⊥
+pub record NetStands (life : Instance → Life) (remote : Instance → Endpoint) (n : Network)
+    (t : NetState) : Type 0 where
+  pub rings : RingsStand n.rings n.pending t.med t.mem
+  pub ears : (p : Instance) → bound_by t.flows p ≡ ear_with (life p) (remote p) (n.flows p)
+  pub unread : (p : Instance) → life p ≡ Alive → frames_of t.mem t.inboxes p ≡ n.unread p
+  pub closed : (p : Instance) → bound_by t.flows p ≡ None → inbox_by t.inboxes p ≡ None
+  pub areas : length t.names ≡ length t.mem
+
+-- the device's registers are those of the journal
+abbrev pub AreRegisters : Local → Network → Registers → Type 0
+AreRegisters local n regs = (r : Reg) → regs r ≡ register local n.rings r
 
 -- the acts of the net half
 abbrev pub is_net : Act → Bool
@@ -91,5 +140,20 @@ pub record NetMakes (local : Local) (life : Instance → Life) (remote : Instanc
     (n : Network) (act : Act) (o : Outcome) (t : NetState) (regs : Registers)
     (l l' : List LogEntry) : Type 0 where
   pub outcome : o ≡ net_outcome local life remote n act
-  pub stands : NetStands local life remote (network_by (is_ok o.head) act o (got_for o l') n) t regs
+  pub stands : NetStands life remote (network_by (is_ok o.head) act o (got_for o l') n) t
+  pub registers : AreRegisters local (network_by (is_ok o.head) act o (got_for o l') n) regs
   pub log : l' ≡ log_after o (frame_of act) (got_for o l') [] l
+
+-- an act served: whatever the net half and the registers stand for, they then stand for what the act
+-- makes of it
+abbrev pub Serves : Local → Act → Outcome → NetState → NetState → Registers → Registers
+    → List LogEntry → List LogEntry → Type 0
+Serves local act o t t' regs regs' log log' = (life : Instance → Life) (remote : Instance → Endpoint)
+    (n : Network) → NetStands life remote n t → AreRegisters local n regs → IsWithLife life act
+    → NetMakes local life remote n act o t' regs' log log'
+
+-- the same of an act that ran out of memory
+abbrev pub Leaves : Local → Act → NetState → Registers → List LogEntry → List LogEntry → Type 0
+Leaves local act t regs log log' = (life : Instance → Life) (remote : Instance → Endpoint)
+    (n : Network) → NetStands life remote n t → AreRegisters local n regs → IsWithLife life act
+    → Loses (net_outcome local life remote n act) act log log'

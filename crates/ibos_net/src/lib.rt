@@ -2,6 +2,12 @@
 //! pool of its buffers, the flows and the inboxes of the instances.
 #![tactic(auto)]
 
+mod flows;
+mod frames;
+mod instances;
 mod net;
+mod parts;
+mod registers;
+mod starting;
 
-pub use net::{Net, ears_may_change};
+pub use net::{Net, lives_may_change};

@@ -1,0 +1,172 @@
+-- A frame comes: what the device made of it is what the journal says.
+use Rattle.std.proofs.Common.{refl, sym, ◌∙◌, ap, subst, inl, inr}
+use Rattle.std.proofs.lemmas.List.{append-nil}
+use Rattle.ibos_net.proofs.Words.{ℕ, ◌≡◌, ◌+◌, ◌-◌, ◌^◌, ◌++◌, ◌∷◌, List, [], Bool, true, false, Result, Ok, Err, length, min, bit_or, if◌then◌else◌, IsInMemory, IsAtDevice, Local, Mediated, Memory, Names, Network, Rings, RingsStand, RingView, Registers, Receive, Ring, Reg, Ctrl, Icr, Imc, Ims, Mpc, Rah0, Ral0, Status, Rctl, NoMemory, Verdict, Filtered, Missed, Heard, VerdictIs, completed, received_frames, IsHeard, HasArrived, Keeps, SameNames, arrived, overrun_cause, received_cause, held_in, frames_of, AreAtHand, Inboxes, Instance, Life, Endpoint, NetStands, NetMakes, NetState, AreRegisters, IsSafe, WireIn, accepted, LogEntry, In, is_enabled, register, verdict_of, verdict_at, Loses, Leaves, newest_in, got_for, Outcome, IfOk, net_outcome, is_heard, after_arrive, with_reg}
+use Rattle.ibos_nic.specs.Device.{OnHeard, OnUnheard}
+use Rattle.ibos_nic.specs.Registers.{after_missed, with_cause}
+use Rattle.ibos_net.proofs.AtDevice.{AreOthers, at-device, from-device, others-of}
+use Rattle.ibos_net.proofs.OwnAddress.{verdict-same}
+use Rattle.ibos_net.proofs.PostMade.{frames-stay}
+
+abbrev pub with_mem : Memory → NetState → NetState
+with_mem mem t = record t { mem = mem }
+
+pub areas-arrived : (mem mem' : Memory) (regs : Registers) (frame : List ℕ) (log log' : List LogEntry) (result : Result Verdict NoMemory) → OnHeard result (IsHeard mem mem' regs frame log log') → OnUnheard result (mem' ≡ mem) → length mem' ≡ length mem
+areas-arrived mem mem' regs frame log log' (Ok Heard) heard unheard = heard.2.areas
+areas-arrived mem mem' regs frame log log' (Ok Missed) heard unheard = ap length unheard
+areas-arrived mem mem' regs frame log log' (Ok Filtered) heard unheard = ap length unheard
+areas-arrived mem mem' regs frame log log' (Err e) heard unheard = ap length unheard
+
+pub arrived-safe : (t : NetState) (mem' : Memory) (result : Result Verdict NoMemory) → IsSafe t → Keeps [] t.med t.med t.mem mem' (HasArrived result) SameNames → AreAtHand t.names mem' (held_in t.inboxes) → IsSafe (with_mem mem' t)
+arrived-safe t mem' result safe keeps hands = record {
+  memory = keeps.memory;
+  owned = λ ring. keeps.owned t.names t.names refl ring (safe.owned ring);
+  unheld = keeps.unheld t.names t.names refl [] safe.unheld;
+  hands = hands;
+  beside = safe.beside;
+}
+
+-- ---- the registers that are part of no ring
+
+others-missed : (local : Local) (rings : Rings) (regs regs' : Registers) (b : Bool) → is_enabled (regs Rctl) ≡ b → ((r : Reg) → regs' r ≡ after_missed regs r) → AreOthers local rings regs
+    → AreOthers local (if b then record rings { causes = bit_or rings.causes overrun_cause; missed = min (rings.missed + 1) (2 ^ 32 - 1) } else rings) regs'
+others-missed local rings regs regs' true on each o =
+    let at : (r : Reg) → regs' r ≡ with_reg Mpc (min (regs Mpc + 1) (2 ^ 32 - 1)) (with_cause overrun_cause regs) r = λ r. each r ∙ ap (λ x. if x then with_reg Mpc (min (regs Mpc + 1) (2 ^ 32 - 1)) (with_cause overrun_cause regs) r else regs r) on in
+    record {
+      ctrl = at Ctrl ∙ o.ctrl;
+      status = at Status ∙ o.status;
+      icr = at Icr ∙ ap (λ x. bit_or x overrun_cause) o.icr;
+      ims = at Ims ∙ o.ims;
+      imc = at Imc ∙ o.imc;
+      mpc = at Mpc ∙ ap (λ x. min (x + 1) (2 ^ 32 - 1)) o.mpc;
+      ral0 = at Ral0 ∙ o.ral0;
+      rah0 = at Rah0 ∙ o.rah0;
+    }
+others-missed local rings regs regs' false on each o =
+    let at : (r : Reg) → regs' r ≡ regs r = λ r. each r ∙ ap (λ x. if x then with_reg Mpc (min (regs Mpc + 1) (2 ^ 32 - 1)) (with_cause overrun_cause regs) r else regs r) on in
+    record {
+      ctrl = at Ctrl ∙ o.ctrl;
+      status = at Status ∙ o.status;
+      icr = at Icr ∙ o.icr;
+      ims = at Ims ∙ o.ims;
+      imc = at Imc ∙ o.imc;
+      mpc = at Mpc ∙ o.mpc;
+      ral0 = at Ral0 ∙ o.ral0;
+      rah0 = at Rah0 ∙ o.rah0;
+    }
+
+others-arrived : (local : Local) (rings : Rings) (regs regs' : Registers) (verdict : Verdict) → regs Rctl ≡ rings.receive.control → HasArrived (Ok verdict) regs regs' → AreOthers local rings regs → AreOthers local (arrived verdict rings) regs'
+others-arrived local rings regs regs' Filtered control each o = record {
+  ctrl = each Ctrl ∙ o.ctrl;
+  status = each Status ∙ o.status;
+  icr = each Icr ∙ o.icr;
+  ims = each Ims ∙ o.ims;
+  imc = each Imc ∙ o.imc;
+  mpc = each Mpc ∙ o.mpc;
+  ral0 = each Ral0 ∙ o.ral0;
+  rah0 = each Rah0 ∙ o.rah0;
+}
+others-arrived local rings regs regs' Missed control each o = others-missed local rings regs regs' (is_enabled rings.receive.control) (ap is_enabled control) each o
+others-arrived local rings regs regs' Heard control each o = record {
+  ctrl = each Ctrl ∙ o.ctrl;
+  status = each Status ∙ o.status;
+  icr = each Icr ∙ ap (λ x. bit_or x received_cause) o.icr;
+  ims = each Ims ∙ o.ims;
+  imc = each Imc ∙ o.imc;
+  mpc = each Mpc ∙ o.mpc;
+  ral0 = each Ral0 ∙ o.ral0;
+  rah0 = each Rah0 ∙ o.rah0;
+}
+
+-- ---- the rings
+
+rings-heard : (rings : Rings) (frames : List (List ℕ)) (m : Mediated) (mem mem' : Memory) (written : List ℕ) → RingsStand rings frames m mem
+    → completed Receive mem' m.receive ≡ completed Receive mem m.receive + 1 → received_frames mem' m.receive ≡ received_frames mem m.receive ++ written ∷ []
+    → RingsStand (arrived Heard rings) (frames ++ written ∷ []) m mem'
+rings-heard rings frames m mem mem' written s counted received = record {
+  receive = s.receive;
+  transmit = s.transmit;
+  names = s.names;
+  turns = s.turns;
+  heard = ap (λ x. x + 1) s.heard ∙ sym counted;
+  pending = ap (λ xs. xs ++ written ∷ []) s.pending ∙ sym received;
+  unposted = s.unposted;
+}
+
+rings-kept : (rings : Rings) (frames : List (List ℕ)) (m : Mediated) (mem mem' : Memory) → mem' ≡ mem → RingsStand rings frames m mem → RingsStand rings (frames ++ []) m mem'
+rings-kept rings frames m mem mem' is s = subst (λ x. RingsStand rings (frames ++ []) m x) (sym is) (subst (λ xs. RingsStand rings xs m mem) (sym (append-nil frames)) s)
+
+rings-missed : (rings : Rings) (frames : List (List ℕ)) (m : Mediated) (mem : Memory) (b : Bool) (causes missed : ℕ) → RingsStand rings frames m mem
+    → RingsStand (if b then record rings { causes = causes; missed = missed } else rings) frames m mem
+rings-missed rings frames m mem true causes missed s = record { receive = s.receive; transmit = s.transmit; names = s.names; turns = s.turns; heard = s.heard; pending = s.pending; unposted = s.unposted }
+rings-missed rings frames m mem false causes missed s = s
+
+-- ---- the act
+
+serves-unheard : (local : Local) (life : Instance → Life) (remote : Instance → Endpoint) (n : Network) (t : NetState) (mem' : Memory) (regs' : Registers) (log log' : List LogEntry) (frame : List ℕ) (rings : Rings)
+    → mem' ≡ t.mem → NetStands life remote n t → RingsStand rings (n.pending ++ []) t.med mem' → NetStands life remote (record { flows = n.flows; unread = n.unread; pending = n.pending ++ []; rings = rings }) (with_mem mem' t)
+serves-unheard local life remote n t mem' regs' log log' frame rings is s stand = record {
+  rings = stand;
+  ears = s.ears;
+  unread = λ p alive. ap (λ m. frames_of m t.inboxes p) is ∙ s.unread p alive;
+  closed = s.closed;
+  areas = s.areas ∙ sym (ap length is);
+}
+
+-- what the laws of arrivals say of a frame that was heard
+pub record HeardLaws (m : Mediated) (mem mem' : Memory) (inboxes : Inboxes) (written : List ℕ) : Type 0 where
+  pub counted : completed Receive mem' m.receive ≡ completed Receive mem m.receive + 1
+  pub received : received_frames mem' m.receive ≡ received_frames mem m.receive ++ written ∷ []
+  pub stay : (who : Instance) → frames_of mem' inboxes who ≡ frames_of mem inboxes who
+  pub areas : length mem' ≡ length mem
+
+pub arrive-serves : (local : Local) (life : Instance → Life) (remote : Instance → Endpoint) (n : Network) (t : NetState) (mem' : Memory) (regs regs' : Registers) (log log' : List LogEntry) (frame : List ℕ) (verdict : Verdict)
+    → IsSafe t → NetStands life remote n t → AreRegisters local n regs → verdict ≡ verdict_of regs frame
+    → OnHeard (Ok verdict) (IsHeard t.mem mem' regs frame log log') → OnUnheard (Ok verdict) (mem' ≡ t.mem) → OnUnheard (Ok verdict) (log' ≡ log) → HasArrived (Ok verdict) regs regs'
+    → Keeps [] t.med t.med t.mem mem' (HasArrived (Ok verdict)) SameNames → (Heard ≡ verdict → (h : IsHeard t.mem mem' regs frame log log') → HeardLaws t.med t.mem mem' t.inboxes h.0)
+    → NetMakes local life remote n (WireIn frame) (accepted (VerdictIs verdict ∷ [])) (with_mem mem' t) regs' log log'
+arrive-serves local life remote n t mem' regs regs' log log' frame Filtered safe s each is heard same logs has keeps laws =
+    let stand = rings-kept n.rings n.pending t.med t.mem mem' same s.rings in
+    let device = keeps.device regs regs' has (at-device local n.rings n.pending t.med t.mem regs s.rings safe.memory each) in
+    record {
+      outcome = ap (λ v. accepted (VerdictIs v ∷ [])) (is ∙ verdict-same local n.rings n.pending t.med t.mem regs frame s.rings safe.memory each);
+      stands = serves-unheard local life remote n t mem' regs' log log' frame n.rings same s stand;
+      registers = from-device local n.rings (n.pending ++ []) t.med mem' regs' stand keeps.memory device (others-arrived local n.rings regs regs' Filtered (each Rctl) has (others-of local n.rings regs each));
+      log = logs;
+    }
+arrive-serves local life remote n t mem' regs regs' log log' frame Missed safe s each is heard same logs has keeps laws =
+    let stand = rings-missed n.rings (n.pending ++ []) t.med mem' (is_enabled n.rings.receive.control) (bit_or n.rings.causes overrun_cause) (min (n.rings.missed + 1) (2 ^ 32 - 1)) (rings-kept n.rings n.pending t.med t.mem mem' same s.rings) in
+    let device = keeps.device regs regs' has (at-device local n.rings n.pending t.med t.mem regs s.rings safe.memory each) in
+    record {
+      outcome = ap (λ v. accepted (VerdictIs v ∷ [])) (is ∙ verdict-same local n.rings n.pending t.med t.mem regs frame s.rings safe.memory each);
+      stands = serves-unheard local life remote n t mem' regs' log log' frame (arrived Missed n.rings) same s stand;
+      registers = from-device local (arrived Missed n.rings) (n.pending ++ []) t.med mem' regs' stand keeps.memory device (others-arrived local n.rings regs regs' Missed (each Rctl) has (others-of local n.rings regs each));
+      log = logs;
+    }
+arrive-serves local life remote n t mem' regs regs' log log' frame Heard safe s each is heard same logs has keeps laws =
+    let now = laws refl heard in
+    let stand = rings-heard n.rings n.pending t.med t.mem mem' heard.0 s.rings now.counted now.received in
+    let device = keeps.device regs regs' has (at-device local n.rings n.pending t.med t.mem regs s.rings safe.memory each) in
+    let P : List LogEntry → Type 0 = λ l. NetMakes local life remote n (WireIn frame) (accepted (VerdictIs Heard ∷ [])) (with_mem mem' t) regs' log l in
+    subst P (sym heard.1) (record {
+      outcome = ap (λ v. accepted (VerdictIs v ∷ [])) (is ∙ verdict-same local n.rings n.pending t.med t.mem regs frame s.rings safe.memory each);
+      stands = record {
+        rings = stand;
+        ears = s.ears;
+        unread = λ p alive. now.stay p ∙ s.unread p alive;
+        closed = s.closed;
+        areas = s.areas ∙ sym now.areas;
+      };
+      registers = from-device local (arrived Heard n.rings) (n.pending ++ heard.0 ∷ []) t.med mem' regs' stand keeps.memory device (others-arrived local n.rings regs regs' Heard (each Rctl) has (others-of local n.rings regs each));
+      log = refl;
+    })
+
+-- a frame that was heard, where there is then no memory for the outcome
+pub arrive-leaves : (local : Local) (life : Instance → Life) (remote : Instance → Endpoint) (n : Network) (t : NetState) (mem' : Memory) (regs : Registers) (log log' : List LogEntry) (frame : List ℕ) (verdict : Verdict)
+    → IsSafe t → NetStands life remote n t → AreRegisters local n regs → verdict ≡ verdict_of regs frame
+    → OnHeard (Ok verdict) (IsHeard t.mem mem' regs frame log log') → OnUnheard (Ok verdict) (log' ≡ log) → Loses (net_outcome local life remote n (WireIn frame)) (WireIn frame) log log'
+arrive-leaves local life remote n t mem' regs log log' frame Filtered safe s each is heard logs = inl logs
+arrive-leaves local life remote n t mem' regs log log' frame Missed safe s each is heard logs = inl logs
+arrive-leaves local life remote n t mem' regs log log' frame Heard safe s each is heard logs =
+    let verdict : Heard ≡ verdict_at local n.rings frame = is ∙ verdict-same local n.rings n.pending t.med t.mem regs frame s.rings safe.memory each in
+    inr (heard.0, subst (λ v. is_heard (accepted (VerdictIs v ∷ [])) ≡ true) verdict refl, heard.1)

@@ -1,0 +1,6 @@
+use Rattle.std.proofs.Common.{sym, subst}
+use Rattle.ibos_net.proofs.Words.{NetStands, NetState}
+use Rattle.ibos_net.proofs.net.Net.end.Goals as goal
+
+pub returns-clause-stands : goal.returns-clause-stands
+returns-clause-stands c = λ life remotes n s. c.end.ensures.stands life remotes n (subst (λ (t : NetState). NetStands life remotes n t) (sym c.self.view_is) s)
