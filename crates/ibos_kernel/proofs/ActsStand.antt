@@ -12,6 +12,7 @@ use Rattle.ibos_kinds.specs.declared.names.Key.TheVariants.{Byte, Enter, Back}
 use Rattle.ibos_focus.specs.declared.focus.Spot.TheVariants.{Entry}
 use Rattle.ibos_kinds.specs.declared.outcome.Outcome.{Outcome}
 use Rattle.ibos_kinds.specs.Limits.{Fits}
+use Rattle.ibos_nic.specs.declared.log.LogEntry.{LogEntry}
 use Rattle.ibos_origin.specs.Hosts.{HostTable}
 use Rattle.ibos_origin.specs.Pages.{Page, allowed}
 use Rattle.ibos_page.specs.Seats.{Seat}
@@ -26,7 +27,9 @@ use Rattle.ibos_model.specs.Jars.{jar, sets_of, with_set}
 use Rattle.ibos_model.specs.Outcomes.{accepted, answer, start_outcome, switch_outcome, close_outcome, go_outcome, out}
 use Rattle.ibos_model.specs.Runs.{IsRun}
 use Rattle.ibos_kernel.specs.Tables.{Tables, Parts, IsBeside, IsComposed, is_entry, origin_at, let_in, with_started, with_gone, with_entered, tabs_after, jar_after, Serves}
-use Rattle.ibos_kernel.specs.Standing.{TabsStand, PartsStand, Stands, entry}
+use Rattle.ibos_net.specs.NetStanding.{is_net}
+use Rattle.ibos_kernel.specs.Standing.{TabsStand, PartsStand, entry}
+use Rattle.ibos_kernel.proofs.LogsGrow.{written_fits}
 use Rattle.ibos_kernel.proofs.TabsStanding.{none_stand, opens_stand, ends_stand, moves_stand}
 use Rattle.std.proofs.lemmas.Slice.Eq.{bytes_eq-Decides}
 use Rattle.std.proofs.lemmas.List.{set-set}
@@ -38,11 +41,6 @@ use Rattle.ibos_model.specs.Laws.{AreSetsPut, IsCarried, IsCarriedAlways}
 use Rattle.ibos_kernel.proofs.TabsStanding.{seat-with}
 use Rattle.ibos_kernel.proofs.Outcomes.{outcome_seen, outcome-seen, outcome_stands, lives_if, enter_seen, active_same, active_lives, seen_screen}
 use Rattle.ibos_kernel.proofs.ScreenStands.{step_displays, active_within, start_page, let_in_ok}
-
--- a kernel whose parts stand for a journal
-pub parts_stand : (J : Journal) (parts : Parts) (acts : ℕ) (usable : Bool) → PartsStand J parts → length J ≡ acts
-    → Stands J (record { hosts = parts.hosts; tabs = parts.tabs; jars = parts.jars; screen = parts.screen; focus = parts.focus; acts = acts; usable = usable })
-parts_stand J parts acts usable holds counted = record { parts = holds; acts = counted }
 
 -- a kernel that has made no act
 pub new_holds : (parts : Parts) (table : TabTable) → parts.tabs ≡ table → length table.seats ≡ 64 → ((tab : ℕ) → seat_at table tab ≡ empty_seat) → table.active ≡ None → parts.jars ≡ []
@@ -96,7 +94,7 @@ go_page : (who : Instance) (origin : List ℕ) (next : Instance) (r : Result Pag
 go_page who origin next (Ok page) ok = (page, refl)
 go_page who origin next (Err rule) ok = absurd (cc ok)
 
-no_page : (seat : Seat) (tab : ℕ) → live_in tab seat ≡ None → seat.page ≡ None
+pub no_page : (seat : Seat) (tab : ℕ) → live_in tab seat ≡ None → seat.page ≡ None
 no_page seat tab none = by_page seat.page seat.count none
   where
     by_page : (page : Option Page) (count : ℕ) → option_map {U = Instance} (λ (x : Page). record { tab = tab; ord = count - 1 }) page ≡ None → page ≡ None
@@ -170,78 +168,66 @@ entered_stands T t (Some who) r true true key shows lives row =
 ok_of : (outcome row : Outcome) → outcome ≡ row → (ok : Bool) → is_ok outcome.head ≡ ok → ok ≡ true → is_ok row.head ≡ true
 ok_of outcome row is ok head accepted = ap (λ (o : Outcome). is_ok o.head) (sym is) ∙ head ∙ accepted
 
-tabs_stand : (J : Journal) (t : Parts) (act : Act) (outcome : Outcome) → PartsStand J t → Fits act → outcome ≡ outcome_seen t act
-    → TabsStand (tabs t.hosts (entry act outcome ∷ J)) (tabs_after t (is_ok outcome.head) act)
+tabs_stand : (J : Journal) (t : Parts) (act : Act) (outcome : Outcome) (log : List LogEntry) → PartsStand J t → Fits act → outcome ≡ outcome_seen t act
+    → TabsStand (tabs t.hosts (entry act outcome log ∷ J)) (tabs_after t (is_ok outcome.head) act)
 unfolding tabs
-tabs_stand J t (Start tab url) outcome stands fits is = start_stands (tabs t.hosts J) t.tabs tab (allowed t.hosts url) (is_ok outcome.head) stands.tabs fits (ok_of outcome _ is (is_ok outcome.head) refl)
-tabs_stand J t (Switch tab) outcome stands fits is = switched (is_ok outcome.head)
+tabs_stand J t (Start tab url) outcome log stands fits is = start_stands (tabs t.hosts J) t.tabs tab (allowed t.hosts url) (is_ok outcome.head) stands.tabs fits (ok_of outcome _ is (is_ok outcome.head) refl)
+tabs_stand J t (Switch tab) outcome log stands fits is = switched (is_ok outcome.head)
   where
     switched : (ok : Bool) → TabsStand (tabs t.hosts J) (if ok then record t.tabs { active = Some tab } else t.tabs)
     switched true = with_active _ t.tabs (Some tab) stands.tabs
     switched false = stands.tabs
-tabs_stand J t (Close tab) outcome stands fits is = close_stands (tabs t.hosts J) t.tabs tab (is_ok outcome.head) stands.tabs fits (ok_of outcome _ is (is_ok outcome.head) refl)
-tabs_stand J t (Press (Byte byte)) outcome stands fits is = stands.tabs
-tabs_stand J t (Press Back) outcome stands fits is = stands.tabs
-tabs_stand J t (Press Enter) outcome stands fits is = rw (stands.displays.spot, stands.displays.entry_line, active_same J t stands)
+tabs_stand J t (Close tab) outcome log stands fits is = close_stands (tabs t.hosts J) t.tabs tab (is_ok outcome.head) stands.tabs fits (ok_of outcome _ is (is_ok outcome.head) refl)
+tabs_stand J t (Press Enter) outcome log stands fits is = rw (stands.displays.spot, stands.displays.entry_line, active_same J t stands)
     (entered_stands (tabs t.hosts J) t.tabs (active_in t.tabs) (allowed t.hosts t.focus.entry_line) (is_ok outcome.head) (is_entry t.focus.spot) Enter stands.tabs
     (λ who is. (active_lives t.tabs who is, active_within t.tabs who stands.displays.tied.beside.room (active_lives t.tabs who is)))
     (ok_of outcome _ is (is_ok outcome.head) refl))
-tabs_stand J t (Click r c) outcome stands fits is = stands.tabs
-tabs_stand J t Look outcome stands fits is = stands.tabs
-tabs_stand J t (Draw who r c height width pixels) outcome stands fits is = stands.tabs
-tabs_stand J t (Go who url) outcome stands fits is = go_stands (tabs t.hosts J) t.tabs who (allowed t.hosts url) (is_ok outcome.head) stands.tabs fits.0 (ok_of outcome _ is (is_ok outcome.head) refl)
-tabs_stand J t (CookieSet side who text) outcome stands fits is = stands.tabs
-tabs_stand J t (CookieGet side who) outcome stands fits is = stands.tabs
+tabs_stand J t (Go who url) outcome log stands fits is = go_stands (tabs t.hosts J) t.tabs who (allowed t.hosts url) (is_ok outcome.head) stands.tabs fits.0 (ok_of outcome _ is (is_ok outcome.head) refl)
+tabs_stand J t other outcome log stands fits is = stands.tabs
 
 without_same : (tab : ℕ) (active : Option ℕ) → spec_without tab active ≡ without tab active
 without_same tab None = refl
 without_same tab (Some active) = refl
 
-active_stands : (J : Journal) (t : Parts) (act : Act) (outcome : Outcome) → PartsStand J t → outcome ≡ outcome_seen t act
-    → active_tab (entry act outcome ∷ J) ≡ (tabs_after t (is_ok outcome.head) act).active
+active_stands : (J : Journal) (t : Parts) (act : Act) (outcome : Outcome) (log : List LogEntry) → PartsStand J t → outcome ≡ outcome_seen t act
+    → active_tab (entry act outcome log ∷ J) ≡ (tabs_after t (is_ok outcome.head) act).active
 unfolding focus_of
-active_stands J t (Start tab url) outcome stands is = started (is_ok outcome.head) (ok_of outcome _ is (is_ok outcome.head) refl)
+active_stands J t (Start tab url) outcome log stands is = started (is_ok outcome.head) (ok_of outcome _ is (is_ok outcome.head) refl)
   where
     started : (ok : Bool) → (ok ≡ true → is_ok (start_outcome (live_at t.tabs tab) (next_at t.tabs tab) (allowed t.hosts url)).head ≡ true)
         → (if ok then Some tab else active_tab J) ≡ (if ok then with_started t.tabs tab (allowed t.hosts url) else t.tabs).active
     started false row = stands.active
     started true row = let page = start_page (live_at t.tabs tab) (next_at t.tabs tab) (allowed t.hosts url) (row refl) in rw page.1 refl
-active_stands J t (Switch tab) outcome stands is = switched (is_ok outcome.head)
+active_stands J t (Switch tab) outcome log stands is = switched (is_ok outcome.head)
   where
     switched : (ok : Bool) → (if ok then Some tab else active_tab J) ≡ (if ok then record t.tabs { active = Some tab } else t.tabs).active
     switched true = refl
     switched false = stands.active
-active_stands J t (Close tab) outcome stands is = ended (is_ok outcome.head)
+active_stands J t (Close tab) outcome log stands is = ended (is_ok outcome.head)
   where
     ended : (ok : Bool) → (if ok then spec_without tab (active_tab J) else active_tab J) ≡ (if ok then record (with_seat t.tabs tab (closed (seat_at t.tabs tab))) { active = without tab t.tabs.active } else t.tabs).active
     ended true = ap (spec_without tab) stands.active ∙ without_same tab t.tabs.active
     ended false = stands.active
-active_stands J t (Press (Byte byte)) outcome stands is = stands.active
-active_stands J t (Press Back) outcome stands is = stands.active
-active_stands J t (Press Enter) outcome stands is = entered (is_ok outcome.head && is_entry t.focus.spot) (active_in t.tabs) (allowed t.hosts t.focus.entry_line)
+active_stands J t (Press Enter) outcome log stands is = entered (is_ok outcome.head && is_entry t.focus.spot) (active_in t.tabs) (allowed t.hosts t.focus.entry_line)
   where
     entered : (ok : Bool) (active : Option Instance) (r : Result Page Rule) → active_tab J ≡ (if ok then with_entered t.tabs active r else t.tabs).active
     entered false active r = stands.active
     entered true None r = stands.active
     entered true (Some who) (Ok page) = stands.active
     entered true (Some who) (Err rule) = stands.active
-active_stands J t (Click r c) outcome stands is = stands.active
-active_stands J t Look outcome stands is = stands.active
-active_stands J t (Draw who r c height width pixels) outcome stands is = stands.active
-active_stands J t (Go who url) outcome stands is = gone (is_ok outcome.head) (allowed t.hosts url)
+active_stands J t (Go who url) outcome log stands is = gone (is_ok outcome.head) (allowed t.hosts url)
   where
     gone : (ok : Bool) (r : Result Page Rule) → active_tab J ≡ (if ok then with_gone t.tabs who r else t.tabs).active
     gone true (Ok page) = stands.active
     gone true (Err rule) = stands.active
     gone false r = stands.active
-active_stands J t (CookieSet side who text) outcome stands is = stands.active
-active_stands J t (CookieGet side who) outcome stands is = stands.active
+active_stands J t other outcome log stands is = stands.active
 
 -- the jar of an origin after an act
-jars_stand : AreSetsPut → (J : Journal) (t : Parts) (act : Act) (outcome : Outcome) → PartsStand J t → outcome ≡ outcome_seen t act → (o : List ℕ)
-    → jar_after t (is_ok outcome.head) act o ≡ jar (sets_of t.hosts (entry act outcome ∷ J) o)
+jars_stand : AreSetsPut → (J : Journal) (t : Parts) (act : Act) (outcome : Outcome) (log : List LogEntry) → PartsStand J t → outcome ≡ outcome_seen t act → (o : List ℕ)
+    → jar_after t (is_ok outcome.head) act o ≡ jar (sets_of t.hosts (entry act outcome log ∷ J) o)
 unfolding sets_of
-jars_stand law J t (CookieSet side who text) outcome stands is o = set (is_ok outcome.head) (ok_of outcome _ is (is_ok outcome.head) refl)
+jars_stand law J t (CookieSet side who text) outcome log stands is o = set (is_ok outcome.head) (ok_of outcome _ is (is_ok outcome.head) refl)
   where
     one_set : (same : Bool) → (if same then put (cookie_in text) (jar_of t.jars o) else jar_of t.jars o) ≡ jar (with_set same text (sets_of t.hosts J o))
     one_set true = ap (put (cookie_in text)) (stands.jars o) ∙ sym (law (cookie_in text) (sets_of t.hosts J o))
@@ -253,74 +239,24 @@ jars_stand law J t (CookieSet side who text) outcome stands is o = set (is_ok ou
     set true row =
         let admitted = let_in_ok (admission t.tabs who) _ (row refl) in
         rw (stands.tabs.origin who (lives_if t.tabs who admitted.0)) (one_set (bytes_eq (origin_at t.tabs who) o))
-jars_stand law J t (Start tab url) outcome stands is o = stands.jars o
-jars_stand law J t (Switch tab) outcome stands is o = stands.jars o
-jars_stand law J t (Close tab) outcome stands is o = stands.jars o
-jars_stand law J t (Press key) outcome stands is o = stands.jars o
-jars_stand law J t (Click r c) outcome stands is o = stands.jars o
-jars_stand law J t Look outcome stands is o = stands.jars o
-jars_stand law J t (Draw who r c height width pixels) outcome stands is o = stands.jars o
-jars_stand law J t (Go who url) outcome stands is o = stands.jars o
-jars_stand law J t (CookieGet side who) outcome stands is o = stands.jars o
+jars_stand law J t other outcome log stands is o = stands.jars o
 
 -- an act that the parts serve
-pub step_holds : AreSetsPut → (J : Journal) (old new : Parts) (act : Act) (outcome : Outcome) → PartsStand J old → Fits act → Serves old act outcome new → PartsStand (entry act outcome ∷ J) new
-step_holds law J old new act outcome stands fits serves =
+pub step_holds : AreSetsPut → (J : Journal) (old new : Parts) (act : Act) (outcome : Outcome) (log : List LogEntry) → is_net act ≡ false → PartsStand J old → Fits act → Serves old act outcome new → PartsStand (entry act outcome log ∷ J) new
+step_holds law J old new act outcome log page stands fits serves =
     let outcome_is : outcome ≡ outcome_seen old act = serves.outcome_is ∙ outcome-seen J old act stands in
     let H : HostTable = old.hosts in
-    let P : HostTable → Type 0 = λ T. IsRun T (entry act outcome ∷ J) in
-    let Q : TabTable → Type 0 = TabsStand (tabs H (entry act outcome ∷ J)) in
-    let S : HostTable → Type 0 = λ T. TabsStand (tabs T (entry act outcome ∷ J)) new.tabs in
+    let P : HostTable → Type 0 = λ T. IsRun T (entry act outcome log ∷ J) in
+    let Q : TabTable → Type 0 = TabsStand (tabs H (entry act outcome log ∷ J)) in
+    let S : HostTable → Type 0 = λ T. TabsStand (tabs T (entry act outcome log ∷ J)) new.tabs in
     record {
-      run = subst P (sym serves.hosts_are) (record { outcome = outcome_is ∙ outcome_stands J old act stands; written = refl }, stands.run);
-      tabs = subst S (sym serves.hosts_are) (subst Q (sym serves.tabs_are) (tabs_stand J old act outcome stands fits outcome_is));
-      active = active_stands J old act outcome stands outcome_is ∙ ap (λ (table : TabTable). table.active) (sym serves.tabs_are);
-      jars = λ o. serves.jars_are o ∙ jars_stand law J old act outcome stands outcome_is o ∙ ap (λ (T : HostTable). jar (sets_of T (entry act outcome ∷ J) o)) (sym serves.hosts_are);
-      displays = step_displays J old new act outcome stands fits serves outcome_is;
+      run = subst P (sym serves.hosts_are) (record { outcome = outcome_is ∙ outcome_stands J old act stands page; written = written_fits outcome log }, stands.run);
+      tabs = subst S (sym serves.hosts_are) (subst Q (sym serves.tabs_are) (tabs_stand J old act outcome log stands fits outcome_is));
+      active = active_stands J old act outcome log stands outcome_is ∙ ap (λ (table : TabTable). table.active) (sym serves.tabs_are);
+      jars = λ o. serves.jars_are o ∙ jars_stand law J old act outcome log stands outcome_is o ∙ ap (λ (T : HostTable). jar (sets_of T (entry act outcome log ∷ J) o)) (sym serves.hosts_are);
+      displays = step_displays J old new act outcome log stands fits serves outcome_is;
     }
 
 -- the outcome is the journal's
-pub step_told : (J : Journal) (old new : Parts) (act : Act) (outcome : Outcome) → PartsStand J old → Serves old act outcome new → outcome ≡ out old.hosts J act
-step_told J old new act outcome stands serves = serves.outcome_is ∙ outcome-seen J old act stands ∙ outcome_stands J old act stands
-
--- what the act tells each instance is what its facts give
-step_carried : IsCarriedAlways → (J : Journal) (old new : Parts) (act : Act) (outcome : Outcome) → PartsStand J old → Serves old act outcome new
-    → IsCarried old.hosts J (entry act outcome)
-step_carried law J old new act outcome stands serves = law old.hosts J (entry act outcome) (record { outcome = step_told J old new act outcome stands serves; written = refl }, stands.run)
-
--- ---- as the code says it
-
-abbrev view_of : Parts → ℕ → Bool → Tables
-view_of parts acts usable = record { hosts = parts.hosts; tabs = parts.tabs; jars = parts.jars; screen = parts.screen; focus = parts.focus; acts = acts; usable = usable }
-
--- the parts of what the kernel is seen as
-held : (J : Journal) (t : Tables) (parts : Parts) (acts : ℕ) (usable : Bool) → view_of parts acts usable ≡ t → Stands J t → PartsStand J parts
-held J t parts acts usable view stands = let P : Tables → Type 0 = Stands J in (subst P (sym view) stands).parts
-
-pub step_stands : AreSetsPut → (J : Journal) (t : Tables) (old new : Parts) (acts : ℕ) (usable : Bool) (act : Act) (outcome : Outcome) → view_of old acts usable ≡ t
-    → Stands J t → Fits act → Serves old act outcome new → Stands (entry act outcome ∷ J) (view_of new (acts + 1) usable)
-step_stands law J t old new acts usable act outcome view stands fits serves =
-    let counted : acts ≡ t.acts = ap (λ (k : Tables). k.acts) view in
-    record { parts = step_holds law J old new act outcome (held J t old acts usable view stands) fits serves; acts = omega (arith, stands.acts, counted) }
-
-pub step_carries : IsCarriedAlways → (J : Journal) (t : Tables) (old new : Parts) (acts : ℕ) (usable : Bool) (act : Act) (outcome : Outcome) → view_of old acts usable ≡ t
-    → Stands J t → Serves old act outcome new → IsCarried t.hosts J (entry act outcome)
-step_carries law J t old new acts usable act outcome view stands serves =
-    let P : HostTable → Type 0 = λ H. IsCarried H J (entry act outcome) in
-    subst P (ap (λ (k : Tables). k.hosts) view) (step_carried law J old new act outcome (held J t old acts usable view stands) serves)
-
-pub step_tells : (J : Journal) (t : Tables) (old new : Parts) (acts : ℕ) (usable : Bool) (act : Act) (outcome : Outcome) → view_of old acts usable ≡ t
-    → Stands J t → Serves old act outcome new → outcome ≡ out t.hosts J act
-step_tells J t old new acts usable act outcome view stands serves =
-    step_told J old new act outcome (held J t old acts usable view stands) serves ∙ ap (λ (k : Tables). out k.hosts J act) view
-
--- what is denied changes nothing but the count of acts
-pub step_denied : (t : Tables) (old new : Parts) (acts : ℕ) (usable : Bool) → view_of old acts usable ≡ t → new ≡ old
-    → view_of new (acts + 1) usable ≡ record t { acts = t.acts + 1 }
-step_denied t old new acts usable view same =
-    ap (λ (parts : Parts). view_of parts (acts + 1) usable) same ∙ ap (λ (k : Tables). record k { acts = k.acts + 1 }) view
-
-pub pixels_seen : (J : Journal) (t : Tables) (parts : Parts) (acts : ℕ) (usable : Bool) → view_of parts acts usable ≡ t → Stands J t
-    → (r c : ℕ) → r < 25 → c < 80 → seen_at parts.screen r c ≡ screen t.hosts J r c
-pixels_seen J t parts acts usable view stands r c low left =
-    seen_screen J parts (held J t parts acts usable view stands) r c low left ∙ ap (λ (k : Tables). screen k.hosts J r c) view
+pub step_told : (J : Journal) (old new : Parts) (act : Act) (outcome : Outcome) → is_net act ≡ false → PartsStand J old → Serves old act outcome new → outcome ≡ out old.hosts J act
+step_told J old new act outcome page stands serves = serves.outcome_is ∙ outcome-seen J old act stands ∙ outcome_stands J old act stands page

@@ -1,8 +1,15 @@
+pub mod LogsGrow
 pub mod TabsStanding
 pub mod ScreenSeen
 pub mod Outcomes
 pub mod ScreenStands
 pub mod ActsStand
+pub mod NetActs
+pub mod Areas
+pub mod Turns
+pub mod Turned
+pub mod PageActs
+pub mod KernelSteps
 pub mod ContentsFollow
 pub mod RowsTrimmed
 pub mod KeysDenied

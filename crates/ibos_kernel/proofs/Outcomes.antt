@@ -27,14 +27,15 @@ use Rattle.ibos_frame.specs.ScreenStates.{seen_at}
 use Rattle.ibos_model.specs.Screen.{screen, seen_row}
 use Rattle.ibos_model.specs.Outcomes.{accepted, denied, admitted, answer, open_outcome, start_outcome, switch_outcome, close_outcome, page_key_outcome, enter_outcome, click_outcome, look_outcome, draw_outcome, go_outcome, set_outcome, get_outcome, out}
 use Rattle.ibos_kernel.specs.Tables.{Parts, origin_at, started_by, gone_by, go_at, enter_at, is_entry, let_in, get_at, outcome_by}
-use Rattle.ibos_kernel.specs.Standing.{TabsStand, PartsStand, entry}
+use Rattle.ibos_kernel.specs.Standing.{TabsStand, PartsStand}
+use Rattle.ibos_net.specs.NetStanding.{is_net}
 use Rattle.ibos_kernel.proofs.TabsStanding.{tab_of}
 use Rattle.ibos_kernel.proofs.ScreenSeen.{seen_same, looks_same}
 
 -- ---- the outcome by the tables is that by the journal
 
 -- an instance is admitted exactly while it lives
-let_in_by : (T : Tabs) (t : TabTable) (who : Instance) (row : Outcome) → TabsStand T t → admitted (life_in T who) row ≡ let_in (admission t who) row
+pub let_in_by : (T : Tabs) (t : TabTable) (who : Instance) (row : Outcome) → TabsStand T t → admitted (life_in T who) row ≡ let_in (admission t who) row
 let_in_by T t who row shows = ap (λ life. admitted life row) (shows.life who) ∙ by_tests (is_live_in who (seat_at t who.tab)) (nat_lt who.ord (seat_at t who.tab).count)
   where
     by_tests : (live past : Bool) → admitted (if live then Alive else if past then Gone else Unborn) row ≡ let_in (if live then None else if past then Some P2 else Some P1) row
@@ -116,6 +117,7 @@ outcome_seen t (Draw who r c height width pixels) = let_in (admission t.tabs who
 outcome_seen t (Go who url) = let_in (admission t.tabs who) (go_outcome who (origin_at t.tabs who) (next_at t.tabs who.tab) (allowed t.hosts url))
 outcome_seen t (CookieSet side who text) = let_in (admission t.tabs who) (answer (set_breaks text (jar_of t.jars (origin_at t.tabs who))))
 outcome_seen t (CookieGet side who) = let_in (admission t.tabs who) (get_at t.jars (origin_at t.tabs who) who)
+outcome_seen t other = outcome_by t other
 
 start_seen : (page : Option Page) (tab count : ℕ) (r : Result Page Rule)
     → started_by (if is_some page then Err U1 else if nat_lt count 32 then Ok (record { tab = tab; ord = count }) else Err U3) r
@@ -157,12 +159,8 @@ outcome-seen J t (Press (Byte byte)) stands = refl
 outcome-seen J t (Press Back) stands = refl
 outcome-seen J t (Press Enter) stands = ap (λ (row : Outcome). if is_entry t.focus.spot then row else page_key_outcome (active_in t.tabs) Enter)
     (enter_at_seen (tabs t.hosts J) t.tabs (allowed t.hosts t.focus.entry_line) stands.tabs (active_in t.tabs) refl)
-outcome-seen J t (Click r c) stands = refl
-outcome-seen J t Look stands = refl
-outcome-seen J t (Draw who r c height width pixels) stands = refl
 outcome-seen J t (Go who url) stands = let_in_same t.tabs who (go_at t.tabs who (allowed t.hosts url)) (go_outcome who (origin_at t.tabs who) (next_at t.tabs who.tab) (allowed t.hosts url)) (go_at_seen (tabs t.hosts J) t.tabs who (allowed t.hosts url) stands.tabs)
-outcome-seen J t (CookieSet side who text) stands = refl
-outcome-seen J t (CookieGet side who) stands = refl
+outcome-seen J t other stands = refl
 
 -- what is seen is the journal's screen
 pub seen_screen : (J : Journal) (t : Parts) → PartsStand J t → (r c : ℕ) → r < 25 → c < 80 → seen_at t.screen r c ≡ screen t.hosts J r c
@@ -180,23 +178,24 @@ press_stands J t Enter stands = rw (active_same J t stands, stands.displays.spot
     (ap (λ (row : Outcome). if is_entry t.focus.spot then row else page_key_outcome (active_in t.tabs) Enter)
     (enter_stands (tabs t.hosts J) t.tabs (allowed t.hosts t.focus.entry_line) stands.tabs (active_in t.tabs) refl))
 
-pub outcome_stands : (J : Journal) (t : Parts) (act : Act) → PartsStand J t → outcome_seen t act ≡ out t.hosts J act
-outcome_stands J t (Start tab url) stands = rw (stands.tabs.live tab, stands.tabs.count tab) refl
-outcome_stands J t (Switch tab) stands = rw (stands.tabs.live tab) refl
-outcome_stands J t (Close tab) stands = rw (stands.tabs.live tab) refl
-outcome_stands J t (Press key) stands = press_stands J t key stands
-outcome_stands J t (Click r c) stands = rw (active_same J t stands) refl
-outcome_stands J t Look stands = looks_same (seen_at t.screen) (screen t.hosts J) (seen_screen J t stands)
-outcome_stands J t (Draw who r c height width pixels) stands = sym (let_in_by (tabs t.hosts J) t.tabs who (draw_outcome r c height width pixels) stands.tabs)
-outcome_stands J t (Go who url) stands =
+pub outcome_stands : (J : Journal) (t : Parts) (act : Act) → PartsStand J t → is_net act ≡ false → outcome_seen t act ≡ out t.hosts J act
+outcome_stands J t (Start tab url) stands page = rw (stands.tabs.live tab, stands.tabs.count tab) refl
+outcome_stands J t (Switch tab) stands page = rw (stands.tabs.live tab) refl
+outcome_stands J t (Close tab) stands page = rw (stands.tabs.live tab) refl
+outcome_stands J t (Press key) stands page = press_stands J t key stands
+outcome_stands J t (Click r c) stands page = rw (active_same J t stands) refl
+outcome_stands J t Look stands page = looks_same (seen_at t.screen) (screen t.hosts J) (seen_screen J t stands)
+outcome_stands J t (Draw who r c height width pixels) stands page = sym (let_in_by (tabs t.hosts J) t.tabs who (draw_outcome r c height width pixels) stands.tabs)
+outcome_stands J t (Go who url) stands page =
     let_in_same t.tabs who (go_outcome who (origin_at t.tabs who) (next_at t.tabs who.tab) (allowed t.hosts url)) (go_outcome who (origin_of t.hosts J who) (next_in (tabs t.hosts J) who.tab) (allowed t.hosts url))
     (λ lives. rw (stands.tabs.origin who lives, stands.tabs.count who.tab) refl)
     ∙ sym (let_in_by (tabs t.hosts J) t.tabs who (go_outcome who (origin_of t.hosts J who) (next_in (tabs t.hosts J) who.tab) (allowed t.hosts url)) stands.tabs)
-outcome_stands J t (CookieSet side who text) stands =
+outcome_stands J t (CookieSet side who text) stands page =
     let_in_same t.tabs who (answer (set_breaks text (jar_of t.jars (origin_at t.tabs who)))) (set_outcome text (sets_of t.hosts J (origin_of t.hosts J who)))
     (λ lives. rw (stands.tabs.origin who lives) (ap (λ cookies. answer (set_breaks text cookies)) (stands.jars (origin_at t.tabs who))))
     ∙ sym (let_in_by (tabs t.hosts J) t.tabs who (set_outcome text (sets_of t.hosts J (origin_of t.hosts J who))) stands.tabs)
-outcome_stands J t (CookieGet side who) stands =
+outcome_stands J t (CookieGet side who) stands page =
     let_in_same t.tabs who (get_at t.jars (origin_at t.tabs who) who) (get_outcome who (sets_of t.hosts J (origin_of t.hosts J who)))
     (λ lives. rw (stands.tabs.origin who lives) (ap (λ (cookies : List Cookie). accepted (Cookies who (jar_text cookies) ∷ [])) (stands.jars (origin_at t.tabs who))))
     ∙ sym (let_in_by (tabs t.hosts J) t.tabs who (get_outcome who (sets_of t.hosts J (origin_of t.hosts J who))) stands.tabs)
+outcome_stands J t other stands page = absurd (cc page)

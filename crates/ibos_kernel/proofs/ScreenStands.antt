@@ -1,5 +1,5 @@
 -- The screen's parts after an act show what the journal's views say after it.
-use Rattle.std.proofs.Common.{◌≡◌, ℕ, ◌+◌, ◌-◌, ◌<◌, ◌≤◌, Bool, true, false, ◌∷◌, length, Option, Some, None, Ok, Err, Result, refl, sym, ◌∙◌, ap, subst, arith}
+use Rattle.std.proofs.Common.{◌≡◌, ℕ, ◌+◌, ◌-◌, ◌<◌, ◌≤◌, Bool, true, false, List, ◌∷◌, length, Option, Some, None, Ok, Err, Result, refl, sym, ◌∙◌, ap, subst, arith}
 use Rattle.std.specs.Prelude.{bytes_eq, nat_lt, is_some, ◌&&◌, ◌==◌, if◌then◌else◌}
 use Rattle.std.proofs.lemmas.Bool.Decides.{nat_tests}
 use Rattle.std.proofs.Math.ListN.{get_or-eq_default}
@@ -11,6 +11,7 @@ use Rattle.ibos_kinds.specs.declared.act.Act.{Act}
 use Rattle.ibos_kinds.specs.declared.act.Act.TheVariants.{Start, Switch, Close, Press, Click, Look, Go, Draw, CookieSet, CookieGet}
 use Rattle.ibos_kinds.specs.declared.outcome.Outcome.{Outcome}
 use Rattle.ibos_kinds.specs.Limits.{Fits}
+use Rattle.ibos_nic.specs.declared.log.LogEntry.{LogEntry}
 use Rattle.ibos_kinds.specs.Screens.{space, cell_after as drawn_cell}
 use Rattle.ibos_origin.specs.Pages.{Page, allowed}
 use Rattle.ibos_page.specs.Seats.{Seat}
@@ -122,16 +123,10 @@ tabs_grow t (Switch tab) outcome room fits is = if_grows t.tabs _ _ (λ ok. reco
 tabs_grow t (Close tab) outcome room fits is = if_grows t.tabs _ _ (λ ok.
     let grows = seat_grows t.tabs tab (closed (seat_at t.tabs tab)) room fits (closed_grows (seat_at t.tabs tab)) in
     record { count = grows.count; fresh = grows.fresh })
-tabs_grow t (Press (Byte byte)) outcome room fits is = stays t.tabs
-tabs_grow t (Press Back) outcome room fits is = stays t.tabs
 tabs_grow t (Press Enter) outcome room fits is = if_grows t.tabs _ _ (λ ok. entered_grows t.tabs (active_in t.tabs) (allowed t.hosts t.focus.entry_line) room (active_lives t.tabs))
-tabs_grow t (Click r c) outcome room fits is = stays t.tabs
-tabs_grow t Look outcome room fits is = stays t.tabs
 tabs_grow t (Go who url) outcome room fits is = if_grows t.tabs _ _ (λ ok.
     gone_grows t.tabs who (allowed t.hosts url) room (lives_if t.tabs who (let_in_ok (admission t.tabs who) _ (ok_of outcome _ is ok)).0))
-tabs_grow t (Draw who r c height width pixels) outcome room fits is = stays t.tabs
-tabs_grow t (CookieSet side who text) outcome room fits is = stays t.tabs
-tabs_grow t (CookieGet side who) outcome room fits is = stays t.tabs
+tabs_grow t other outcome room fits is = stays t.tabs
 
 -- ---- the views
 
@@ -157,20 +152,12 @@ undrawn t (Draw who row col height width pixels) outcome q r c tied is past = by
     by_ok true accepted true one = absurd (drew accepted one)
     by_ok true accepted false one = refl
     by_ok false denied one is_one = refl
-undrawn t (Start tab url) outcome q r c tied is past = refl
-undrawn t (Switch tab) outcome q r c tied is past = refl
-undrawn t (Close tab) outcome q r c tied is past = refl
-undrawn t (Press key) outcome q r c tied is past = refl
-undrawn t (Click row col) outcome q r c tied is past = refl
-undrawn t Look outcome q r c tied is past = refl
-undrawn t (Go who url) outcome q r c tied is past = refl
-undrawn t (CookieSet side who text) outcome q r c tied is past = refl
-undrawn t (CookieGet side who) outcome q r c tied is past = refl
+undrawn t other outcome q r c tied is past = refl
 
-pub step_displays : (J : Journal) (old new : Parts) (act : Act) (outcome : Outcome) → PartsStand J old → Fits act → Serves old act outcome new → outcome ≡ outcome_seen old act
-    → Displays (entry act outcome ∷ J) new
+pub step_displays : (J : Journal) (old new : Parts) (act : Act) (outcome : Outcome) (log : List LogEntry) → PartsStand J old → Fits act → Serves old act outcome new → outcome ≡ outcome_seen old act
+    → Displays (entry act outcome log ∷ J) new
 unfolding focus_of cell_of
-step_displays J old new act outcome stands fits serves outcome_is = record {
+step_displays J old new act outcome log stands fits serves outcome_is = record {
   spot = rw (stands.active, stands.displays.spot, serves.focus_is) (sym (entry_of_spot (at_entry_line_by old.tabs.active (is_ok outcome.head) act (is_entry old.focus.spot))));
   entry_line = rw (stands.displays.spot, stands.displays.entry_line, serves.focus_is) refl;
   cells = λ q r c low left live. serves.cells_are q r c low left live ∙ ap (cell_by q r c (is_ok outcome.head) act) (before q r c low left live (is_live old.tabs q) refl);

@@ -2,20 +2,29 @@
 use Rattle.std.specs.Prelude.{ℕ, ◌≡◌, ◌+◌, ◌<◌, ◌≤◌, List, [], true, false, length, Some, nat_lt}
 use Rattle.std.specs.Prelude.{if◌then◌else◌}
 use Rattle.ibos_kinds.specs.declared.names.Instance.{Instance}
+use Rattle.ibos_kinds.specs.declared.names.Endpoint.{Endpoint}
+use Rattle.ibos_nic.specs.declared.log.LogEntry.{LogEntry}
+use Rattle.ibos_nic.specs.Registers.{Registers}
+use Rattle.ibos_origin.specs.Hosts.{HostTable}
 use Rattle.ibos_kinds.specs.declared.act.Act.{Act}
 use Rattle.ibos_kinds.specs.declared.outcome.Outcome.{Outcome}
 use Rattle.ibos_page.specs.Seats.{Seat}
 use Rattle.ibos_page.specs.Tabs.{TabTable, seat_at, live_at, is_live_in}
 use Rattle.ibos_cookie.specs.Jars.{jar_of}
-use Rattle.ibos_model.specs.Journal.{Journal, Entry}
-use Rattle.ibos_model.specs.Tabs.{Tabs, Life, Unborn, Alive, Gone, tabs, life_in, origin_in}
+use Rattle.ibos_model.specs.Journal.{Journal, Entry, heard}
+use Rattle.ibos_model.specs.Logs.{got_for, sent_in, written_in}
+use Rattle.ibos_model.specs.Network.{endpoint_for, network}
+use Rattle.ibos_model.specs.Tabs.{Tabs, Life, Unborn, Alive, Gone, tabs, life_in, life_of, origin_in}
+use Rattle.ibos_model.specs.Tabs.{origin_of}
 use Rattle.ibos_kinds.specs.Screens.{space}
 use Rattle.ibos_frame.specs.ScreenStates.{content_at}
 use Rattle.ibos_model.specs.Focus.{active_tab, focus_of}
 use Rattle.ibos_model.specs.Screen.{cell_of}
 use Rattle.ibos_model.specs.Jars.{jar, sets_of}
 use Rattle.ibos_model.specs.Runs.{IsRun}
+use Rattle.ibos_net.specs.NetStanding.{AreRegisters, NetState, NetStands, areas_of, posts_of}
 use Rattle.ibos_kernel.specs.Tables.{Tables, Parts, IsTied, is_entry, is_live, origin_at, parts_of}
+use Rattle.ibos_kernel.specs.Tables.{started}
 use Rattle.ibos_kernel.specs.Tables.{url_with}
 
 -- whether an instance lives, by its tab's seat
@@ -59,11 +68,44 @@ pub record PartsStand (J : Journal) (t : Parts) : Type 0 where
   pub jars : (o : List ℕ) → jar_of t.jars o ≡ jar (sets_of t.hosts J o)
   pub displays : Displays J t
 
+-- where the origin of an instance is
+abbrev pub remote_of : HostTable → Journal → Instance → Endpoint
+remote_of H J p = endpoint_for H (origin_of H J p)
+
+-- the net half stands for what the journal says of flows, frames and rings
+abbrev pub NetStandsFor : HostTable → Journal → NetState → Type 0
+NetStandsFor H J net = NetStands (life_of H J) (remote_of H J) (network J) net
+
 -- the kernel stands for a journal
 pub record Stands (J : Journal) (t : Tables) : Type 0 where
   pub parts : PartsStand J (parts_of t)
+  pub net : NetStandsFor t.hosts J t.net
   pub acts : length J ≡ t.acts
 
--- the entry of an act that heard no frame
-abbrev pub entry : Act → Outcome → Entry
-entry act outcome = record { act = act; outcome = outcome; written = [] }
+-- The device agrees with a journal: its registers are the journal's, and its log has what was
+-- written for the frames heard. There is no frame to send yet.
+pub record Agrees (H : HostTable) (J : Journal) (f : Registers) (log : List LogEntry)
+    : Type 0 where
+  pub registers : AreRegisters H.local (network J) f
+  pub written : written_in log ≡ heard J
+  pub sent : sent_in log ≡ []
+
+-- the entry of an act, where the log is then this
+abbrev pub entry : Act → Outcome → List LogEntry → Entry
+entry act outcome log = record { act = act; outcome = outcome; written = got_for outcome log }
+
+-- some journal is the kernel's and the device's
+abbrev pub AreTogether : Tables → Registers → List LogEntry → Type 0
+AreTogether t f log = (J : Journal) × Stands J t × Agrees t.hosts J f log
+
+-- Each tab has had at most 32 instances, and there is an area of memory for each that started, and
+-- one for the rings.
+pub record IsCounted (t : TabTable) (net : NetState) : Type 0 where
+  pub few : (tab : ℕ) → (seat_at t tab).count ≤ 32
+  pub areas : areas_of net ≡ 1 + started t.seats
+
+-- What holds of a kernel that may step. An act posts at most one buffer.
+pub record IsSound (t : Tables) : Type 0 where
+  pub counted : IsCounted t.tabs t.net
+  pub posts : posts_of t.net ≤ t.acts
+  pub stood : (J : Journal) × Stands J t

@@ -9,6 +9,7 @@ use Rattle.ibos_kinds.specs.declared.rule.Rule.{Rule}
 use Rattle.ibos_kinds.specs.declared.act.Act.{Act}
 use Rattle.ibos_kinds.specs.declared.act.Act.TheVariants.{Start, Switch, Close, Press, Click, Look}
 use Rattle.ibos_kinds.specs.declared.act.Act.TheVariants.{Go, Draw, CookieSet, CookieGet}
+use Rattle.ibos_kinds.specs.declared.act.Act.TheVariants.{Unbind, Done, RegWrite, RxPost}
 use Rattle.ibos_kinds.specs.declared.outcome.Outcome.{Outcome}
 use Rattle.ibos_kinds.specs.declared.outcome.Item.TheVariants.{Opened, Moved as ItemMoved, Ended}
 use Rattle.ibos_kinds.specs.declared.outcome.Item.TheVariants.{Cookies}
@@ -19,8 +20,10 @@ use Rattle.ibos_kinds.specs.Keyboard.{key_breaks}
 use Rattle.ibos_kinds.specs.Screens.{space, padded}
 use Rattle.ibos_page.specs.declared.tabs.Moved.{Moved}
 use Rattle.ibos_page.specs.declared.tabs.Moved.TheVariants.{Same, New}
+use Rattle.ibos_net.specs.NetStanding.{NetState}
 use Rattle.ibos_origin.specs.Hosts.{HostTable}
 use Rattle.ibos_origin.specs.Pages.{Page, allowed}
+use Rattle.ibos_page.specs.Seats.{Seat}
 use Rattle.ibos_page.specs.Tabs.{TabTable, seat_at, live_at, active_in, is_live_in, start_in, go_in}
 use Rattle.ibos_page.specs.Tabs.{opened, moved, closed, with_seat, without, origin_with}
 use Rattle.ibos_route.specs.Parties.{admission_of}
@@ -50,6 +53,7 @@ pub record Tables : Type 0 where
   pub jars : List OriginJar
   pub screen : ScreenState
   pub focus : Focused
+  pub net : NetState
   -- how many acts there have been
   pub acts : ℕ
   -- the kernel never ran out of memory
@@ -63,6 +67,11 @@ parts_of t = record {
   screen = t.screen;
   focus = t.focus;
 }
+
+-- how many instances have started
+abbrev pub started : List Seat → ℕ
+started [] = 0
+started (seat ∷ seats) = seat.count + started seats
 
 -- ---- the screen beside the tabs
 
@@ -175,6 +184,7 @@ admitted_outcome t (Go who url) = go_at t.tabs who (allowed t.hosts url)
 admitted_outcome t (CookieSet side who text) = answer
     (set_breaks text (jar_of t.jars (origin_at t.tabs who)))
 admitted_outcome t (CookieGet side who) = get_at t.jars (origin_at t.tabs who) who
+admitted_outcome t other = accepted []
 
 -- the outcome of an act, by the tables
 abbrev pub outcome_by : Parts → Act → Outcome
@@ -248,6 +258,10 @@ composes other = false
 abbrev pub takes_none : Act → Bool
 takes_none (Switch tab) = true
 takes_none (Draw who r c height width pixels) = true
+takes_none (Unbind who flow) = true
+takes_none (Done who) = true
+takes_none (RegWrite offset value) = true
+takes_none (RxPost slot handle) = true
 takes_none other = false
 
 -- what an act leaves of the screen and the tabs that it does not change

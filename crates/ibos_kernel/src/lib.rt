@@ -3,6 +3,7 @@
 
 mod chrome;
 mod cookies;
+mod halves;
 mod input;
 mod kernel;
 mod parts;
@@ -10,6 +11,3 @@ mod screens;
 mod tabs;
 
 pub use kernel::Kernel;
-
-#[cfg(test)]
-mod tests;

@@ -1,5 +1,6 @@
-// What acts read and change: the host table, the tabs, the jars, the screen and the focus.
-ghost use Rattle.std.specs.Prelude.{◌≡◌, ◌<◌, ◌+◌, ◌*◌, ℕ, [], None, Some, true, length};
+// What acts of the pages' half read and change: the host table, the tabs, the jars, the screen and
+// the focus.
+ghost use Rattle.std.specs.Prelude.{◌≡◌, ◌<◌, ◌+◌, ◌*◌, ℕ, [], None, Some, true, false, length};
 ghost use Rattle.std.specs.Prelude.{slice_index, IsOk, OnOk, IfSome};
 ghost use Rattle.ibos_kinds.specs.Limits.{Fits, IsKey};
 ghost use Rattle.ibos_kinds.specs.declared.names.Instance.{Instance};
@@ -9,6 +10,7 @@ ghost use Rattle.ibos_kinds.specs.declared.act.Act.TheVariants.{CookieGet};
 ghost use Rattle.ibos_page.specs.Tabs.{live_at, admission};
 ghost use Rattle.ibos_frame.specs.ScreenStates.{content_of, seen_at};
 ghost use Rattle.ibos_model.specs.Journal.{is_ok};
+ghost use Rattle.ibos_net.specs.NetStanding.{is_net};
 ghost use Rattle.ibos_route.specs.Parties.{admission_of};
 ghost use Rattle.ibos_kernel.specs.Tables as spec;
 ghost use Rattle.ibos_kernel.specs.Tables.{Makes, bar_at, takes_none, IsTied, IsComposed, IsBeside};
@@ -30,7 +32,7 @@ use ibos_route::admit;
 use std::alloc::Global;
 use std::marker::Model;
 
-/// What acts read and change.
+/// What acts of the pages' half read and change.
 #[derive(Drop)]
 pub struct Parts {
     pub hosts: Hosts,
@@ -57,6 +59,7 @@ impl Model for Parts {
 impl Parts {
     /// Makes one act, and fills `out`, which is as new, with its outcome.
     pub fn serve(&mut self, alloc: Global, act: &Act, out: &mut Outcome) -> Result<(), Memory>
+        requires pages { is_net act.now ≡ false }
         requires fits { Fits act.now }
         requires tied { IsTied self.old.tabs self.old.screen self.old.focus }
         requires head { out.old.head ≡ Head.Ok }
@@ -77,6 +80,7 @@ impl Parts {
     }
 
     fn make(&mut self, alloc: Global, act: &Act, out: &mut Outcome) -> Result<(), Memory>
+        requires pages { is_net act.now ≡ false }
         requires fits { Fits act.now }
         requires admitted { admission_of self.old.tabs act.now ≡ None }
         requires tied { IsTied self.old.tabs self.old.screen self.old.focus }
@@ -115,6 +119,9 @@ impl Parts {
             Act::CookieGet { who, .. } => {
                 get(&self.jars, alloc, self.tabs.origin(*who), *who, out)?;
             }
+            Act::Bind { .. } | Act::Unbind { .. } | Act::Done { .. } => unreachable!(),
+            Act::RegRead { .. } | Act::RegWrite { .. } => unreachable!(),
+            Act::RxPost { .. } | Act::RxBell | Act::WireIn { .. } => unreachable!(),
         }
         Ok(())
     }
@@ -287,5 +294,8 @@ fn composes(act: &Act) -> bool
         Act::Start { .. } | Act::Switch { .. } | Act::Close { .. } => true,
         Act::Press { .. } | Act::Click { .. } | Act::Go { .. } => true,
         Act::Look | Act::Draw { .. } | Act::CookieSet { .. } | Act::CookieGet { .. } => false,
+        Act::Bind { .. } | Act::Unbind { .. } | Act::Done { .. } => false,
+        Act::RegRead { .. } | Act::RegWrite { .. } => false,
+        Act::RxPost { .. } | Act::RxBell | Act::WireIn { .. } => false,
     }
 }

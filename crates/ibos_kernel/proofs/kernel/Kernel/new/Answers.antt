@@ -1,9 +1,27 @@
-use Rattle.std.proofs.Common.{refl, ◌∙◌}
-use Rattle.ibos_kernel.proofs.ActsStand.{new_holds, parts_stand}
+use Rattle.std.proofs.Common.{refl, sym, ◌∙◌, ap}
+use Rattle.ibos_model.specs.Network.{no_network}
+use Rattle.ibos_net.specs.NetStanding.{AreRegisters}
+use Rattle.ibos_kernel.specs.Tables.{Parts}
+use Rattle.ibos_kernel.proofs.ActsStand.{new_holds}
+use Rattle.ibos_kernel.proofs.KernelSteps.{new_agrees, new_counted, new_net, new_sound, new_stands}
 use Rattle.ibos_kernel.proofs.kernel.Kernel.new.Goals as goal
 
-pub returns-clause-stands : goal.returns-clause-stands
-returns-clause-stands c =
+pub invariant_of-result : goal.invariant_of-result
+invariant_of-result g c = λ usable.
     let made = c.compose.ensures in
     let tabs = c.in_ok-tabs.ensures in
-    parts_stand _ c.compose.new.self 0 _ (new_holds c.compose.new.self c.in_ok-tabs.tabs made.tabs tabs.room tabs.seats tabs.active (made.jars ∙ c.new-3.ensures) (made.focus ∙ c.new-4.ensures) made.beside made.composed) refl
+    let pages = new_holds c.compose.new.self c.in_ok-tabs.tabs made.tabs tabs.room tabs.seats tabs.active (made.jars ∙ c.new-3.ensures) (made.focus ∙ c.new-4.ensures) made.beside made.composed in
+    new_sound c.compose.new.self c.in_ok-net.net pages (new_net c.compose.new.self.hosts c.in_ok-net.net c.in_ok-net.ensures.stands)
+    (new_counted c.compose.new.self.tabs c.in_ok-tabs.tabs c.in_ok-net.net made.tabs tabs.seats c.in_ok-net.ensures.areas) c.in_ok-net.ensures.posts
+
+pub returns-clause-stands : goal.returns-clause-stands
+returns-clause-stands g c =
+    let made = c.compose.ensures in
+    let tabs = c.in_ok-tabs.ensures in
+    let pages = new_holds c.compose.new.self c.in_ok-tabs.tabs made.tabs tabs.room tabs.seats tabs.active (made.jars ∙ c.new-3.ensures) (made.focus ∙ c.new-4.ensures) made.beside made.composed in
+    new_stands c.compose.new.self c.in_ok-net.net pages (new_net c.compose.new.self.hosts c.in_ok-net.net c.in_ok-net.ensures.stands)
+
+pub returns-clause-agrees : goal.returns-clause-agrees
+returns-clause-agrees g c =
+    new_agrees c.args.hosts (g.N.Nic.regs c.new-5.new.nic) (g.N.Nic.log c.new-5.new.nic) c.local-local.result c.local-local.ensures
+    (λ r. c.in_ok-net.ensures.registers r) (c.in_ok-net.ensures.log ∙ c.requires.log)
