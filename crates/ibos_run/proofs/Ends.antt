@@ -1,5 +1,5 @@
 -- The end of a run.
-use Rattle.std.proofs.Common.{◌≡◌, ℕ, ◌+◌, List, [], ◌++◌, Option, Some, None, refl, sym, ◌∙◌, ap, subst, length, append-nil}
+use Rattle.std.proofs.Common.{◌≡◌, ℕ, List, [], ◌++◌, Option, Some, None, sym, ◌∙◌, ap, subst, length, append-nil}
 use Rattle.std.specs.Prelude.{IfSome}
 use Rattle.ibos_origin.specs.Hosts.{HostTable}
 use Rattle.ibos_nic.specs.declared.log.LogEntry.{LogEntry}
@@ -8,7 +8,7 @@ use Rattle.ibos_model.specs.Inputs.{Input, NoForm, NoHosts, Session, Reading, Re
 use Rattle.ibos_model.specs.Journal.{Journal, frames}
 use Rattle.ibos_model.specs.Logs.{frames_in, sent_in, written_in}
 use Rattle.ibos_model.specs.Text.{text_of}
-use Rattle.ibos_run.specs.Device.{IsLogFront, IsLogOf, IsLoggedFront, IsReset}
+use Rattle.ibos_run.specs.Device.{IsLogFront, IsLogOf, IsLoggedFront}
 use Rattle.ibos_run.specs.Session.{IsBroken, IsServed, IsStopped, IsTold}
 use Rattle.ibos_run.specs.Took.{Took, TookFront}
 use Rattle.ibos_run.proofs.Sessions.{IsOver}

@@ -20,10 +20,8 @@ use Rattle.ibos_model.specs.Runs.{Follows, GoesOn, IsWritten, entry_of, left_by,
 use Rattle.ibos_model.specs.Text.{text_of}
 use Rattle.ibos_model.specs.Laws.{AreFrameFronts, AreFronts, DoGoOn}
 use Rattle.ibos_model.specs.Inputs.{Refusal, Reading, onto_acts, journal_of, last_line, session_text}
-use Rattle.ibos_net.specs.NetStanding.{AreRegisters}
 use Rattle.ibos_kernel.specs.Tables.{Tables}
 use Rattle.ibos_kernel.specs.Standing.{Agrees, AreTogether, Stands, entry}
-use Rattle.ibos_run.specs.Device.{IsLogFront, IsLogOf}
 use Rattle.ibos_run.specs.Session.{IsCut, IsMade, IsServed, IsStopped}
 use Rattle.ibos_run.specs.Took.{Took, TookFront}
 use Rattle.ibos_run.proofs.Taken.{front_more, front_of, front_then, took_more, took_none, took_then}

@@ -1,4 +1,4 @@
-use Rattle.std.proofs.Common.{◌≡◌, ◌+◌, ◌++◌, arith, length, refl, subst}
+use Rattle.std.proofs.Common.{◌≡◌, ◌+◌, arith, length, refl, subst}
 use Rattle.ibos_kinds.specs.declared.outcome.Outcome.{Outcome}
 use Rattle.ibos_script.specs.Printed.{IsCutShort, outcome_text}
 use Rattle.ibos_model.specs.Journal.{Journal}

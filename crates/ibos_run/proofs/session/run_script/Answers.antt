@@ -1,9 +1,8 @@
 use Rattle.std.proofs.Common.{List, ℕ, ◌∙◌, subst, sym}
 use Rattle.ibos_model.specs.Inputs.{Session}
-use Rattle.ibos_model.specs.Logs.{written_in}
 use Rattle.ibos_run.specs.Script.{refusal_of}
 use Rattle.ibos_run.specs.Session.{IsBroken}
-use Rattle.ibos_run.proofs.Ends.{told, unhanded, with_last, without_last, stopped_broken}
+use Rattle.ibos_run.proofs.Ends.{told, unhanded, with_last, without_last}
 use Rattle.ibos_run.proofs.Sessions.{IsOver}
 use Rattle.ibos_run.proofs.Taken.{on_err}
 use Rattle.ibos_run.proofs.session.run_script.Goals as goal
