@@ -1,5 +1,5 @@
 -- One step of a receive bell: what is told.
-use Rattle.std.proofs.Common.{◌≡◌, ◌≢◌, ℕ, Bool, true, false, cond, List, [], ◌∷◌, ◌++◌, length, map, Option, refl, sym, ◌∙◌, ap, subst}
+use Rattle.std.proofs.Common.{◌≡◌, ℕ, Bool, true, false, cond, List, [], ◌∷◌, ◌++◌, map, Option, refl, sym, ◌∙◌, ap}
 use Rattle.std.specs.List.{filter}
 use Rattle.std.proofs.lemmas.List.{append-nil, append_assoc}
 use Rattle.ibos_kinds.specs.declared.names.Handle.{Handle}
@@ -7,13 +7,13 @@ use Rattle.ibos_kinds.specs.declared.names.Local.{Local}
 use Rattle.ibos_kinds.specs.declared.outcome.Item.{Item}
 use Rattle.ibos_kinds.specs.declared.outcome.Item.TheVariants.{LentIs}
 use Rattle.ibos_kinds.specs.declared.party.Party.TheVariants.{Page}
-use Rattle.ibos_kinds.specs.Bells.{Aim, aim_of, bell, frame_in, frames_in, heard_item, unread_then}
+use Rattle.ibos_kinds.specs.Bells.{aim_of, bell, frame_in, frames_in, heard_item, unread_then}
 use Rattle.ibos_kinds.specs.Flows.{Bound}
 use Rattle.ibos_kinds.specs.Parties.{is_to}
 use Rattle.ibos_mediate.specs.Frames.{Arrival, arrivals}
 use Rattle.ibos_recv.proofs.BellSteps.{State}
 use Rattle.ibos_recv.proofs.Hearings.{frames_for}
-use Rattle.ibos_recv.proofs.Words.{Instance, Memory, bell_over, frames_of, unread_of}
+use Rattle.ibos_recv.proofs.Words.{Instance, bell_over, frames_of, unread_of}
 
 module _ (local : Local) (ears : Instance → Option Bound) where
   -- the item of a frame

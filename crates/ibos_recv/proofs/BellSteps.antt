@@ -1,5 +1,5 @@
 -- One step of a receive bell: what it keeps.
-use Rattle.std.proofs.Common.{◌≡◌, ◌≢◌, ◌↔◌, ℕ, suc, ◌+◌, ◌<◌, ◌≤◌, ◌==◌, ◌&&◌, Bool, true, false, cond, List, [], ◌∷◌, ◌++◌, length, Option, Some, None, refl, sym, ◌∙◌, ap, subst, arith}
+use Rattle.std.proofs.Common.{◌≡◌, ◌≢◌, ◌↔◌, ℕ, suc, ◌+◌, ◌<◌, ◌≤◌, false, cond, List, [], ◌∷◌, ◌++◌, length, None, refl, sym, ◌∙◌, ap, subst, arith}
 use Rattle.std.proofs.lemmas.Bool.Decides.{nat_tests}
 use Rattle.ibos_pool.proofs.HandLemmas.{hands-given, hands-still, kept-freed, not_true}
 use Rattle.ibos_pool.specs.Sizes.{max_areas}
@@ -9,7 +9,7 @@ use Rattle.ibos_mediate.specs.Keeps.{Keeps, SameNames, SameRegisters}
 use Rattle.ibos_mediate.specs.Mediated.{Mediated, RingView, ring_of}
 use Rattle.ibos_mediate.specs.Relation.{AreOwned, AreUnheld, AreUnheldBut, IsAtDevice, IsInMemory, IsLoanFor, completed}
 use Rattle.ibos_recv.proofs.PartedHands.{clash, kept_in}
-use Rattle.ibos_recv.proofs.Words.{AreAtHand, AreFilled, Held, Inboxes, Instance, IsClaimed, IsKept, IsLent, IsLoanOf, IsMarked, IsServed, Memory, Name, Names, Place, Receive, Ring, Transmit, address_of, buffer_at, buffer_bytes, bytes_at, descriptor_bytes, has_place, held_in, inbox_by, is_lent_at, is_taken, room_slots, same_name, slot_address, slot_at}
+use Rattle.ibos_recv.proofs.Words.{AreAtHand, AreFilled, Held, Inboxes, Instance, IsClaimed, IsKept, IsLent, IsLoanOf, IsMarked, IsServed, Memory, Name, Names, Place, Receive, Ring, Transmit, address_of, buffer_at, buffer_bytes, descriptor_bytes, has_place, held_in, inbox_by, is_lent_at, is_taken, room_slots, same_name, slot_address, slot_at}
 
 -- what a bell works on
 pub record State : Type 0 where

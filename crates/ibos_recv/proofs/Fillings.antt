@@ -1,5 +1,5 @@
 -- A frame is written into a buffer of an inbox.
-use Rattle.std.proofs.Common.{◌≡◌, ◌≢◌, ℕ, zero, suc, ◌+◌, ◌-◌, ◌%◌, ◌<◌, ◌≤◌, ◌⊎◌, Bool, true, false, List, [], ◌∷◌, ◌++◌, length, drop, refl, sym, ◌∙◌, ap, subst, arith, get_or, ⊎_elim, inl, inr, length-append, length-drop}
+use Rattle.std.proofs.Common.{◌≡◌, ◌≢◌, ℕ, ◌+◌, ◌%◌, ◌<◌, ◌≤◌, true, false, List, [], ◌∷◌, ◌++◌, length, drop, refl, sym, ◌∙◌, ap, subst, arith, get_or, ⊎_elim, inl, length-append, length-drop}
 use Rattle.std.specs.Prelude.{Option, Some, None, slice_get, take}
 use Rattle.std.proofs.lemmas.List.{take_at}
 use Rattle.ibos_pool.proofs.HandLemmas.{not_true}
@@ -7,7 +7,7 @@ use Rattle.ibos_pool.proofs.MemoryLemmas.{length-bytes_at}
 use Rattle.ibos_pool.proofs.PlaceLemmas.{places_apart, ring_apart, same_from_test, slot_inside, test_from_same}
 use Rattle.ibos_recv.proofs.FrameLists.{from-done, from-get, from-push, from-same, read-get}
 use Rattle.ibos_recv.proofs.PartedHands.{clash, in_list, kept_in, places_differ}
-use Rattle.ibos_recv.proofs.Words.{AreAtHand, AreFilled, Held, Inbox, IsInbox, IsKept, IsPlaceIn, IsWritten, Memory, Names, Place, Ring, address_of, buffer_at, buffer_bytes, bytes_at, bytes_in, descriptor_bytes, frames_from, has_place, inbox_frames, room_slots, same_place, slot_address, slot_at}
+use Rattle.ibos_recv.proofs.Words.{AreAtHand, AreFilled, Held, Inbox, IsInbox, IsKept, IsPlaceIn, IsWritten, Memory, Names, Place, address_of, buffer_at, buffer_bytes, bytes_at, bytes_in, descriptor_bytes, frames_from, has_place, inbox_frames, same_place, slot_address}
 
 -- done with the oldest frame
 pub frames-done : (mem : Memory) (b c : Inbox) → c.held ≡ b.held → c.head ≡ (b.head + 1) % 16 → c.lens ≡ drop 1 b.lens → inbox_frames mem c ≡ drop 1 (inbox_frames mem b)

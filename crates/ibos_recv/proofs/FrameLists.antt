@@ -1,7 +1,7 @@
 -- The frames of an inbox.
-use Rattle.std.proofs.Common.{◌≡◌, ℕ, zero, suc, ◌+◌, ◌%◌, ◌<◌, ◌≤◌, List, [], ◌∷◌, ◌++◌, true, length, drop, get_or, refl, sym, ◌∙◌, ap, subst, arith}
-use Rattle.std.specs.Prelude.{Option, None, Some, slice_get, take}
-use Rattle.ibos_recv.proofs.Words.{Held, Memory, bytes_in, frames_from, buffer_at}
+use Rattle.std.proofs.Common.{◌≡◌, ℕ, zero, suc, ◌+◌, ◌%◌, ◌<◌, List, [], ◌∷◌, ◌++◌, length, drop, get_or, refl, sym, ◌∙◌, ap, subst, arith}
+use Rattle.std.specs.Prelude.{Some, slice_get}
+use Rattle.ibos_recv.proofs.Words.{Held, Memory, bytes_in, frames_from}
 
 pub from-length : (mem : Memory) (held : List Held) (at : ℕ) (lens : List ℕ) → length (frames_from mem held at lens) ≡ length lens
 from-length mem held at [] = refl

@@ -1,10 +1,10 @@
 -- The buffers of an area that was added.
-use Rattle.std.proofs.Common.{◌≡◌, ◌≢◌, ℕ, ◌+◌, ◌<◌, ◌≤◌, ◌==◌, false, length, refl, sym, ◌∙◌, ap, subst, arith, get_or}
+use Rattle.std.proofs.Common.{◌≡◌, ◌≢◌, ◌+◌, ◌<◌, ◌≤◌, ◌==◌, false, length, refl, sym, ◌∙◌, ap, subst, arith, get_or}
 use Rattle.std.proofs.lemmas.Bool.Decides.{nat_tests}
 use Rattle.std.proofs.lemmas.List.{get_or_past}
 use Rattle.ibos_pool.specs.Memory.{Area, is_lent_at, no_area}
 use Rattle.ibos_pool.specs.Places.{buffers_of}
-use Rattle.ibos_recv.proofs.Words.{AreFreshIn, IsKept, IsNameIn, IsPlaceIn, Memory, Name, Names, Place, home_of, name_in, place_of}
+use Rattle.ibos_recv.proofs.Words.{AreFreshIn, IsKept, IsNameIn, Memory, Name, Names, Place, home_of, name_in, place_of}
 
 -- nothing is lent where there is no memory
 lent-past : (mem : Memory) (p : Place) → length mem ≤ p.area → is_lent_at mem p ≡ false

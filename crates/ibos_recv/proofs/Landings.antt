@@ -1,5 +1,5 @@
 -- Where a frame goes.
-use Rattle.std.proofs.Common.{◌≡◌, ◌≢◌, ℕ, ◌+◌, ◌<◌, ◌≤◌, Bool, true, false, List, [], ◌∷◌, ◌++◌, length, Option, Some, None, Result, Ok, Err, refl, sym, ◌∙◌, ap, subst, arith}
+use Rattle.std.proofs.Common.{◌≡◌, ℕ, ◌<◌, Bool, true, false, List, Option, Some, None, Result, Ok, Err, refl, sym, ◌∙◌, ap, arith}
 use Rattle.std.specs.Prelude.{nat_lt, not, if◌then◌else◌}
 use Rattle.std.proofs.lemmas.Bool.Decides.{nat_tests}
 use Rattle.ibos_kinds.specs.declared.names.Dir.TheVariants.{In}
@@ -7,8 +7,8 @@ use Rattle.ibos_kinds.specs.declared.names.Heading.{Heading}
 use Rattle.ibos_kinds.specs.declared.names.Local.{Local}
 use Rattle.ibos_kinds.specs.declared.rule.Rule.{Rule}
 use Rattle.ibos_kinds.specs.declared.rule.Rule.TheVariants.{F12, F13, F14}
-use Rattle.ibos_kinds.specs.Bells.{Aim, aim_at, aim_by, aim_of, frame_rule, room_rule, rule_by}
-use Rattle.ibos_kinds.specs.Flows.{Bound, admitted, admitted_by, found_by, is_over, named, proto_at, same_end}
+use Rattle.ibos_kinds.specs.Bells.{Aim, aim_at, aim_by, aim_of, frame_rule, rule_by}
+use Rattle.ibos_kinds.specs.Flows.{Bound, admitted_by, found_by, is_over, named, proto_at, same_end}
 use Rattle.ibos_kinds.specs.Judged.{judged}
 use Rattle.ibos_kinds.specs.Ports.{owner_of}
 use Rattle.ibos_recv.proofs.Words.{Instance, landed, landing}

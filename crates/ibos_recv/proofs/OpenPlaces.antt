@@ -1,6 +1,6 @@
 -- A place of the table is looked at, and gets another inbox.
-use Rattle.std.proofs.Common.{◌≡◌, ◌≢◌, ◌↔◌, ℕ, ◌+◌, ◌-◌, ◌<◌, Bool, true, false, List, [], ◌∷◌, ◌++◌, length, refl, sym, ◌∙◌, ap, subst, arith, get_or}
-use Rattle.std.specs.Prelude.{Option, Some, None, slice_set, if◌then◌else◌}
+use Rattle.std.proofs.Common.{◌≡◌, ◌≢◌, ◌↔◌, ℕ, ◌<◌, Bool, true, false, List, ◌++◌, length, refl, sym, ◌∙◌, ap, subst, arith, get_or}
+use Rattle.std.specs.Prelude.{Option, Some, None, slice_set}
 use Rattle.std.proofs.lemmas.List.{get_or_read}
 use Rattle.ibos_pool.proofs.HandLemmas.{not_true}
 use Rattle.ibos_recv.proofs.PartedHands.{clash, comes_first, front_of, goes_back, in_left, in_right, kept_in, none_shared, rotated}

@@ -1,12 +1,11 @@
 -- The frames of all instances, where buffers stay as they are.
-use Rattle.std.proofs.Common.{◌≡◌, ◌≢◌, ℕ, zero, suc, ◌+◌, ◌%◌, ◌<◌, Bool, true, false, List, [], ◌∷◌, ◌++◌, length, refl, sym, ◌∙◌, ap, subst, arith, get_or}
-use Rattle.std.specs.Prelude.{Option, Some, None, slice_get, take, unwrap_or}
+use Rattle.std.proofs.Common.{◌≡◌, ℕ, ◌+◌, ◌%◌, true, false, List, ◌++◌, length, refl, ap}
+use Rattle.std.specs.Prelude.{Option, Some, None, slice_get, take}
 use Rattle.ibos_pool.proofs.HandLemmas.{not_true}
-use Rattle.ibos_pool.proofs.PlaceLemmas.{test_from_same}
 use Rattle.ibos_recv.proofs.FrameLists.{from-length, from-same}
 use Rattle.ibos_recv.proofs.PartedHands.{front_of, in_list, kept_in, none_shared}
-use Rattle.ibos_recv.proofs.TablePlaces.{in_table, inbox-where}
-use Rattle.ibos_recv.proofs.Words.{AreAtHand, Held, Inbox, Inboxes, Instance, IsKept, Memory, Names, Place, buffer_at, bytes_in, frames_at, frames_of, has_place, held_at, held_in, inbox_by, inbox_frames, inbox_place, unread_at, unread_of}
+use Rattle.ibos_recv.proofs.TablePlaces.{inbox-where}
+use Rattle.ibos_recv.proofs.Words.{AreAtHand, Held, Inbox, Inboxes, Instance, IsKept, Memory, Names, Place, buffer_at, bytes_in, frames_at, frames_of, has_place, held_at, held_in, inbox_by, unread_at, unread_of}
 
 pub frames-length : (mem : Memory) (t : Inboxes) (who : Instance) → length (frames_of mem t who) ≡ unread_of t who
 frames-length mem t who = by_inbox (inbox_by t who)

@@ -1,9 +1,9 @@
 -- Where the inboxes of instances stand.
 use Rattle.std.proofs.Common.{◌≡◌, ◌≢◌, ℕ, zero, suc, ◌<◌, Bool, true, false, List, [], ◌∷◌, ◌++◌, length, refl, sym, ◌∙◌, ap, subst, arith, get_or, replicate}
-use Rattle.std.specs.Prelude.{Option, Some, None, nat_lt, ◌&&◌, slice_set, if◌then◌else◌}
+use Rattle.std.specs.Prelude.{Option, None, slice_set, if◌then◌else◌}
 use Rattle.std.proofs.lemmas.Bool.Decides.{nat_tests}
-use Rattle.std.proofs.lemmas.List.{append-nil, append_assoc, get_or-set_same, get_or-set_other, get_or_read, get_or-replicate}
-use Rattle.ibos_recv.proofs.PartedHands.{in_either, in_left, in_right, clash}
+use Rattle.std.proofs.lemmas.List.{append-nil, append_assoc, get_or-set_same, get_or-set_other, get_or-replicate}
+use Rattle.ibos_recv.proofs.PartedHands.{in_left, in_right, clash}
 use Rattle.ibos_recv.proofs.Words.{Held, Inbox, Inboxes, Instance, IsNamed, Place, has_inbox_place, has_place, held_at, held_in, inbox_by, inbox_place, same, unread_at, unread_of}
 
 pub inbox-at : (t : Inboxes) (who : Instance) → IsNamed who → inbox_by t who ≡ get_or t (inbox_place who) None

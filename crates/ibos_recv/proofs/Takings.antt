@@ -11,7 +11,7 @@ use Rattle.ibos_nic.specs.Registers.{Registers}
 use Rattle.ibos_mediate.specs.Mediated.{Mediated}
 use Rattle.ibos_mediate.specs.Relation.{MediatesBut}
 use Rattle.ibos_recv.proofs.PartedHands.{rotated}
-use Rattle.ibos_recv.proofs.Words.{AreAtHand, AreFreshIn, Held, IsClaimed, IsFresh, IsKept, IsLoanOf, IsNameIn, IsOneToOne, Memory, Name, Names, Place, buffer_in, inbox_buffers, is_inbox_name, is_taken, name_in, place_of, same_name}
+use Rattle.ibos_recv.proofs.Words.{AreAtHand, AreFreshIn, Held, IsClaimed, IsFresh, IsKept, IsLoanOf, IsNameIn, IsOneToOne, Memory, Name, Names, Place, buffer_in, is_taken, name_in, place_of, same_name}
 
 -- a name of the area's inbox below an index
 abbrev is_below : ℕ → ℕ → Name → Bool

@@ -1,5 +1,5 @@
 -- What is true of an inbox at all times.
-use Rattle.std.specs.Prelude.{◌≡◌, ◌<◌, ◌≤◌, ℕ, length}
+use Rattle.std.specs.Prelude.{◌≡◌, ◌<◌, ◌≤◌, length}
 use Rattle.std.specs.List.{All}
 use Rattle.ibos_pool.specs.Sizes.{buffer_bytes}
 use Rattle.ibos_recv.specs.Inboxes.{Inbox}

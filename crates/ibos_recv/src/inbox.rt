@@ -67,6 +67,7 @@ fn take_all(alloc: Global, area: u16, pool: &mut Pool) -> Result<Vec<Loan>, Memo
         → MediatesBut out m mem regs pool.old → MediatesBut out m mem regs pool.new }
     ensures err { OnErr result (pool.new ≡ pool.old) }
 {
+    // cited for their clauses
     other_names_keep_the_relation();
     let _areas = pool.areas();
     let mut loans = Vec::with_capacity(alloc, BUFFERS)?;
@@ -89,6 +90,7 @@ fn give_all(loans: Vec<Loan>, pool: &mut Pool)
         → AreAtHand pool.old mem loans.items → MediatesBut out m mem regs pool.old
         → MediatesBut out m mem regs pool.new }
 {
+    // cited for its clauses
     gifts_keep_the_relation();
     let mut loans = loans;
     'given: while let Some(loan) = loans.pop() {

@@ -82,6 +82,7 @@ pub fn serve(
         → AreAtHand pool.new mem.new (held_in inboxes.new ++ more) }
     ensures served { IsServed (held_in inboxes.old) pool.old pool.new mem.old mem.new }
 {
+    // cited for their clauses
     other_changes_keep_the_relation();
     other_changes_keep_the_frames();
     gifts_keep_the_relation();

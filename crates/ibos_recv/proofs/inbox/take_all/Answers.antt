@@ -1,6 +1,4 @@
-use Rattle.std.proofs.Common.{◌≡◌, ◌≢◌, ◌==◌, false, rules, refl, sym, ◌∙◌, arith}
-use Rattle.std.proofs.lemmas.Bool.Decides.{nat_tests}
-use Rattle.ibos_pool.specs.Places.{buffers_of}
+use Rattle.std.proofs.Common.{rules, refl}
 use Rattle.ibos_recv.proofs.PartedHands.{clash}
 use Rattle.ibos_recv.proofs.Takings.{taking-begins, taking-free, taking-named, taking-next}
 use Rattle.ibos_recv.proofs.inbox.take_all.Goals as goal

@@ -1,4 +1,3 @@
-use Rattle.std.proofs.Common.{◌≡◌, true}
 use Rattle.ibos_pool.proofs.HandLemmas.{not_true}
 use Rattle.ibos_recv.proofs.PartedHands.{back_of, front_of, kept_in, none_shared, swapped}
 use Rattle.ibos_recv.proofs.laws.hands_are_parted.Goals as goal

@@ -1,4 +1,4 @@
-use Rattle.std.proofs.Common.{◌≡◌, ◌≢◌, ◌<◌, sym, ◌∙◌, ap, arith}
+use Rattle.std.proofs.Common.{◌<◌, sym, ◌∙◌, arith}
 use Rattle.std.proofs.lemmas.Result.{err_from_is_err_and}
 use Rattle.ibos_flow.specs.Flows.{bound_by}
 use Rattle.ibos_recv.proofs.Landings.{landing-broken, landing-full, landing-lost, landing-own}

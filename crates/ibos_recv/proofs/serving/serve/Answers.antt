@@ -1,13 +1,12 @@
-use Rattle.std.proofs.Common.{◌≡◌, ◌<◌, ℕ, suc, List, [], ◌∷◌, ◌++◌, length, refl, sym, ◌∙◌, ap, subst, arith}
+use Rattle.std.proofs.Common.{List, [], ◌∷◌, ◌++◌, length, refl, sym, ◌∙◌, ap, arith}
 use Rattle.std.proofs.lemmas.Result.{err_from_is_err_and}
-use Rattle.ibos_mediate.specs.Frames.{Arrival, after_bell, arrivals}
-use Rattle.ibos_mediate.specs.Relation.{IsAtDevice}
+use Rattle.ibos_mediate.specs.Frames.{Arrival}
 use Rattle.ibos_flow.specs.Flows.{bound_by}
-use Rattle.ibos_recv.proofs.BellItems.{IsTold, item_of, told-begins, told-frames, told-items, told-step}
-use Rattle.ibos_recv.proofs.BellSteps.{IsServing, IsStep, Laws, State, arrived-step, serving-begins, serving-step, step-of}
+use Rattle.ibos_recv.proofs.BellItems.{item_of, told-frames, told-items, told-step}
+use Rattle.ibos_recv.proofs.BellSteps.{IsStep, Laws, State, arrived-step, serving-step, step-of}
 use Rattle.ibos_recv.proofs.Hearings.{frames_for}
 use Rattle.ibos_recv.proofs.TableFrames.{frames-same}
-use Rattle.ibos_recv.proofs.Words.{Receive, address_of, buffer_bytes, bytes_at, frames_of, unread_of}
+use Rattle.ibos_recv.proofs.Words.{Receive, address_of, buffer_bytes, bytes_at, unread_of}
 use Rattle.ibos_recv.proofs.serving.serve.Goals as goal
 
 pub rx_take-requires-clause-owned : goal.rx_take-requires-clause-owned

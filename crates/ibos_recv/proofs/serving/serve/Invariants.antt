@@ -2,7 +2,7 @@ use Rattle.std.proofs.Common.{◌≡◌, length}
 use Rattle.ibos_mediate.specs.Frames.{arrivals}
 use Rattle.ibos_flow.specs.Flows.{bound_by}
 use Rattle.ibos_recv.proofs.BellItems.{IsTold}
-use Rattle.ibos_recv.proofs.BellSteps.{IsServing, State}
+use Rattle.ibos_recv.proofs.BellSteps.{IsServing}
 use Rattle.ibos_recv.proofs.serving.serve.Given as goal
 
 abbrev pub invariant-served : goal.invariant-served

@@ -1,4 +1,4 @@
-use Rattle.std.proofs.Common.{◌++◌, [], sym, subst}
+use Rattle.std.proofs.Common.{[], sym, subst}
 use Rattle.std.proofs.lemmas.List.{append-nil}
 use Rattle.ibos_recv.proofs.Words.{AreAtHand, held_in}
 use Rattle.ibos_recv.proofs.tests.end_and_close.Goals as goal

@@ -1,6 +1,6 @@
-use Rattle.std.proofs.Common.{◌≡◌, ◌<◌, ◌++◌, [], List, length, sym, ◌∙◌, ap, subst, arith}
+use Rattle.std.proofs.Common.{◌≡◌, ◌++◌, [], length, sym, ◌∙◌, ap, subst, arith}
 use Rattle.std.proofs.lemmas.List.{append-nil}
-use Rattle.ibos_recv.proofs.Words.{AreAtHand, AreFreshIn, Held, Inboxes, held_in}
+use Rattle.ibos_recv.proofs.Words.{AreAtHand, AreFreshIn, Inboxes, held_in}
 use Rattle.ibos_recv.proofs.tests.inboxes_are_added_ended_and_closed.Goals as goal
 
 pub close-requires : goal.close-requires

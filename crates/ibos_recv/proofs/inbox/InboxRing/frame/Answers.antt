@@ -1,4 +1,4 @@
-use Rattle.std.proofs.Common.{◌≡◌, ◌<◌, ◌+◌, ◌%◌, [], length, arith, subst, ap, ◌∙◌}
+use Rattle.std.proofs.Common.{◌≡◌, ◌<◌, ◌+◌, ◌%◌, [], length, arith, subst}
 use Rattle.std.specs.Prelude.{slice_index_or, take}
 use Rattle.ibos_recv.proofs.Fillings.{frame-read, read-kept}
 use Rattle.ibos_recv.proofs.Words.{Inbox, inbox_frames}

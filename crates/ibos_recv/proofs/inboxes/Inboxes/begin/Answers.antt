@@ -1,7 +1,6 @@
-use Rattle.std.proofs.Common.{◌≡◌, ◌≢◌, ◌++◌, Option, Some, None, sym, ◌∙◌, ap, subst}
-use Rattle.std.specs.Prelude.{slice_set}
+use Rattle.std.proofs.Common.{◌++◌, Some, None, sym, ◌∙◌, ap}
 use Rattle.ibos_recv.proofs.OpenPlaces.{begin-hands, clash_some, opened}
-use Rattle.ibos_recv.proofs.Words.{AreAtHand, Inbox, Inboxes, held_in, inbox_by}
+use Rattle.ibos_recv.proofs.Words.{Inbox, held_in}
 use Rattle.ibos_recv.proofs.inboxes.Inboxes.begin.Goals as goal
 
 pub unreachable-requires : goal.unreachable-requires

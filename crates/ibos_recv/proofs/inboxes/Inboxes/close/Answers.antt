@@ -1,8 +1,8 @@
-use Rattle.std.proofs.Common.{◌≡◌, ◌++◌, ◌∷◌, [], List, Option, Some, None, rules, sym, ◌∙◌, ap, subst}
+use Rattle.std.proofs.Common.{◌≡◌, ◌++◌, [], rules, ◌∙◌, ap, subst}
 use Rattle.std.proofs.lemmas.List.{append-nil}
 use Rattle.ibos_recv.proofs.Givings.{IsGiving, giving-held, giving-many}
 use Rattle.ibos_recv.proofs.TablePlaces.{held-push}
-use Rattle.ibos_recv.proofs.Words.{AreAtHand, Held, Inbox, Inboxes, held_at, held_in}
+use Rattle.ibos_recv.proofs.Words.{AreAtHand, Inboxes, held_at, held_in}
 use Rattle.ibos_recv.proofs.inboxes.Inboxes.close.Goals as goal
 
 pub close-requires : goal.close-requires

@@ -1,5 +1,4 @@
-use Rattle.std.proofs.Common.{◌≡◌, ◌≢◌, ◌-◌, ℕ, drop, length, Option, Some, None, List, sym, ◌∙◌, ap, subst, arith, length-drop}
-use Rattle.std.specs.Prelude.{slice_set}
+use Rattle.std.proofs.Common.{◌≡◌, ◌≢◌, ◌-◌, ℕ, drop, length, Option, Some, None, List, sym, ◌∙◌, ap, subst, length-drop}
 use Rattle.ibos_recv.proofs.OpenPlaces.{opened, same-held}
 use Rattle.ibos_recv.proofs.TablePlaces.{named_of}
 use Rattle.ibos_recv.proofs.Words.{Inbox, frames_at, unread_at}

@@ -1,8 +1,7 @@
-use Rattle.std.proofs.Common.{◌≡◌, ◌≢◌, ◌++◌, List, Option, Some, None, sym, ◌∙◌, ap, subst}
-use Rattle.std.specs.Prelude.{slice_set}
+use Rattle.std.proofs.Common.{◌++◌, Some, None, sym, ◌∙◌, subst}
 use Rattle.ibos_recv.proofs.OpenPlaces.{end-hands, open-first, open-hands, opened}
 use Rattle.ibos_recv.proofs.TablePlaces.{named_of}
-use Rattle.ibos_recv.proofs.Words.{AreAtHand, AreReturned, Inbox, Inboxes, held_at, held_in, inbox_by}
+use Rattle.ibos_recv.proofs.Words.{AreReturned, held_at}
 use Rattle.ibos_recv.proofs.inboxes.Inboxes.end.Goals as goal
 
 pub place_of-requires : goal.place_of-requires

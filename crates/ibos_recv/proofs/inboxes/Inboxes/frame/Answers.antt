@@ -1,8 +1,8 @@
-use Rattle.std.proofs.Common.{◌≡◌, ◌<◌, [], length, Option, Some, None, sym, ◌∙◌, ap, subst}
+use Rattle.std.proofs.Common.{◌<◌, [], Some, None, sym, ◌∙◌, ap, subst}
 use Rattle.std.specs.Prelude.{slice_index_or}
 use Rattle.ibos_recv.proofs.OpenPlaces.{open-hands, opened}
 use Rattle.ibos_recv.proofs.TablePlaces.{named_of, open_of}
-use Rattle.ibos_recv.proofs.Words.{Inbox, frames_at, inbox_frames, unread_at}
+use Rattle.ibos_recv.proofs.Words.{frames_at, inbox_frames, unread_at}
 use Rattle.ibos_recv.proofs.inboxes.Inboxes.frame.Goals as goal
 
 pub place_of-requires : goal.place_of-requires

@@ -1,7 +1,7 @@
-use Rattle.std.proofs.Common.{◌≡◌, ◌≢◌, ◌+◌, ◌<◌, ◌++◌, ◌∷◌, [], ℕ, List, length, Option, Some, None, sym, ◌∙◌, ap, subst, arith, length-append}
+use Rattle.std.proofs.Common.{◌≡◌, ◌+◌, ◌<◌, ◌++◌, ◌∷◌, [], length, Some, None, sym, ◌∙◌, ap, subst, length-append}
 use Rattle.ibos_recv.proofs.OpenPlaces.{filled-all, frames-elsewhere, open-hands, opened, same-held, still-open}
 use Rattle.ibos_recv.proofs.TablePlaces.{named_of}
-use Rattle.ibos_recv.proofs.Words.{Inbox, frames_at, frames_from, unread_at}
+use Rattle.ibos_recv.proofs.Words.{Inbox, frames_at, unread_at}
 use Rattle.ibos_recv.proofs.inboxes.Inboxes.push.Goals as goal
 
 pub place_of-requires : goal.place_of-requires

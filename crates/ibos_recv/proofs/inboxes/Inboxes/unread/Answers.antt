@@ -1,4 +1,4 @@
-use Rattle.std.proofs.Common.{◌≡◌, ◌≤◌, length, Some, None, sym, ◌∙◌, ap, subst}
+use Rattle.std.proofs.Common.{◌≤◌, Some, None, sym, ◌∙◌, ap, subst}
 use Rattle.ibos_recv.proofs.OpenPlaces.{opened}
 use Rattle.ibos_recv.proofs.TablePlaces.{named_of}
 use Rattle.ibos_recv.proofs.Words.{unread_at}
