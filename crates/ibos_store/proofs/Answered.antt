@@ -1,8 +1,7 @@
 -- What an answer gives is the newest version under the key that was asked for, of the own origin.
-use Rattle.std.proofs.Common.{◌≡◌, ℕ, List, Bool, true, false, refl, sym, ◌∙◌, ap, subst, arith, Option, Some, None, Result, Ok, Err}
+use Rattle.std.proofs.Common.{◌≡◌, ℕ, List, Bool, true, false, refl, sym, ◌∙◌, ap, arith, Option, Some, None, Ok, Err}
 use Rattle.std.specs.Prelude.{◌==◌, bytes_eq, not, IsSomeAnd, if◌then◌else◌}
 use Rattle.std.proofs.lemmas.Bool.Decides.{nat_tests}
-use Rattle.ibos_kinds.specs.declared.rule.Rule.{Rule}
 use Rattle.ibos_kinds.specs.declared.rule.Rule.TheVariants.{S6, S7, S8}
 use Rattle.ibos_store.specs.Objects.{Newest}
 use Rattle.ibos_store.specs.Answers.{bytes_answer, newest_answer, label_answer}

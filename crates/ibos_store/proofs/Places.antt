@@ -1,12 +1,12 @@
 -- Where the requests of instances stand.
-use Rattle.std.proofs.Common.{◌≡◌, ◌≢◌, ℕ, ◌<◌, ◌≤◌, Bool, true, false, List, [], ◌∷◌, length, Option, None, Some, refl, sym, ◌∙◌, ap, subst, arith, get_or, Result, Ok, Err}
-use Rattle.std.specs.Prelude.{OnOk, nat_lt, slice_set, option_and_then, not, find, filter, if◌then◌else◌}
+use Rattle.std.proofs.Common.{◌≡◌, ◌≢◌, ℕ, ◌<◌, ◌≤◌, Bool, true, false, List, [], ◌∷◌, length, Option, None, Some, refl, sym, ◌∙◌, ap, subst, arith, get_or}
+use Rattle.std.specs.Prelude.{nat_lt, slice_set, option_and_then, not, find, filter, if◌then◌else◌}
 use Rattle.std.proofs.lemmas.Bool.Decides.{nat_tests}
 use Rattle.std.proofs.lemmas.List.{get_or-set_same, get_or-set_other, get_or_read}
 use Rattle.std.proofs.Math.ListN.{get_or-eq_default}
 use Rattle.ibos_kinds.specs.declared.names.Instance.{Instance}
 use Rattle.std.specs.Option.{option_map}
-use Rattle.ibos_store.specs.Requests.{Asked, Requests, is_numbered, key_in, without}
+use Rattle.ibos_store.specs.Requests.{Asked, Requests, is_numbered, key_in, without_request}
 use Rattle.ibos_store.specs.Stores.{place_of, requests_in, key_at}
 
 -- what stands at an instance's place
@@ -35,7 +35,7 @@ requests-set_other places who q at x is tab other = by_tab (nat_lt q.tab 256) re
     by_tab false high = refl
     by_tab true low = let below : q.tab < 256 = grind (arith, nat_tests) in get_or-set_other places at (place_of q) x None (λ e. other (same_place q who below tab (e ∙ is)))
 
--- an instance with a content has a place in the table
+-- an instance with requests has a place in the table
 pub requests_within : (places : List (Option Requests)) (who : Instance) (at : ℕ) → at ≡ place_of who → who.tab < 256 → requests_in places who ≢ None → at < length places
 requests_within places who at is tab there = by_test (nat_lt at (length places)) refl
   where
@@ -91,11 +91,6 @@ held_by places seen who at x view there is tab read =
     let P : List (Option Requests) → Type 0 = λ t. requests_in t who ≢ None in
     held places who at x is tab (requests_within places who at is tab (subst P (sym view) there)) read
 
--- a fact that holds after Ok gives another
-pub then_ok : {A E : Type 0} (r : Result A E) {P Q : Type 0} → (P → Q) → OnOk r P → OnOk r Q
-then_ok (Ok x) f p = f p
-then_ok (Err e) f p = tt
-
 -- the key of a request by what stands at its instance's place
 pub key_found : (places seen : List (Option Requests)) (who : Instance) (at number : ℕ) (found : Option Requests) → places ≡ seen → at ≡ place_of who → who.tab < 256
     → found ≡ get_or places at None → option_and_then (λ requests. key_in requests number) found ≡ key_at seen who number
@@ -113,9 +108,9 @@ not_found number (a ∷ rest) = by_test (is_numbered number a) refl (not_found n
     by_test false is more = rw is (rw is more)
 
 -- an answered request isn't unanswered
-pub answered_once : (old new : List (Option Requests)) (who : Instance) (number : ℕ) → requests_in new who ≡ option_map (without number) (requests_in old who) → key_at new who number ≡ None
+pub answered_once : (old new : List (Option Requests)) (who : Instance) (number : ℕ) → requests_in new who ≡ option_map (without_request number) (requests_in old who) → key_at new who number ≡ None
 answered_once old new who number answered = ap (λ (x : Option Requests). option_and_then (λ requests. key_in requests number) x) answered ∙ by_requests (requests_in old who)
   where
-    by_requests : (x : Option Requests) → option_and_then (λ requests. key_in requests number) (option_map (without number) x) ≡ None
+    by_requests : (x : Option Requests) → option_and_then (λ requests. key_in requests number) (option_map (without_request number) x) ≡ None
     by_requests None = refl
     by_requests (Some requests) = ap (λ (x : Option Asked). option_map (λ asked. asked.key) x) (not_found number requests.unanswered)

@@ -1,6 +1,6 @@
 -- What a put and a loss make of the table of an origin.
-use Rattle.std.proofs.Common.{◌≡◌, ℕ, ◌+◌, ◌-◌, ◌≤◌, ◌<◌, List, [], ◌∷◌, Bool, true, false, refl, sym, ◌∙◌, ap, subst, length, arith, Option, Some, None, Result, Ok, Err}
-use Rattle.std.specs.Prelude.{bytes_eq, nat_lt, OnOk, OnErr, if◌then◌else◌}
+use Rattle.std.proofs.Common.{◌≡◌, ℕ, ◌+◌, ◌-◌, ◌≤◌, List, true, false, refl, sym, ◌∙◌, ap, length, arith, Option, Some, None, Result, Ok, Err}
+use Rattle.std.specs.Prelude.{bytes_eq, nat_lt, OnOk, OnErr}
 use Rattle.std.specs.Global.{Vec}
 use Rattle.std.specs.Map.{lookup, set_value}
 use Rattle.indexmap.specs.IndexMap.{insert_entry}
@@ -12,6 +12,7 @@ use Rattle.ibos_store.specs.Stores.{key_objects}
 use Rattle.ibos_store.proofs.Sums.{with-same, counts_held, sum_new, stored_within, over_by}
 use Rattle.ibos_store.proofs.Finding.{newest_found, objects_set, objects_inserted}
 
+-- a fact that holds after Ok, or after Err, gives another
 pub then_ok : {A E : Type 0} (r : Result A E) {P Q : Type 0} → (P → Q) → OnOk r P → OnOk r Q
 then_ok (Ok x) f p = f p
 then_ok (Err e) f p = tt

@@ -1,5 +1,5 @@
 -- What the calls of storage answer: the first rule that they break, or else what is asked for.
-use Rattle.std.specs.Prelude.{◌≡◌, ℕ, ◌+◌, List, Bool, ◌==◌, not, nat_lt, nat_le, length}
+use Rattle.std.specs.Prelude.{◌≡◌, ℕ, ◌+◌, List, ◌==◌, not, nat_lt, nat_le, length}
 use Rattle.std.specs.Prelude.{bytes_eq, Option, Some, None, Result, Ok, Err, if◌then◌else◌}
 use Rattle.ibos_kinds.specs.declared.rule.Rule.{Rule}
 use Rattle.ibos_kinds.specs.declared.rule.Rule.TheVariants.{S1, S2, S3, S4, S5, S6, S7, S8, S9}
@@ -44,8 +44,8 @@ newest_answer version None = Err S8
 newest_answer version (Some newest) =
     if newest.version == version then bytes_answer newest.bytes else Err S8
 
--- an answer to a request for that key, of an instance of the origin `own`, by a label: an origin, a key
--- and a version, with what stands there
+-- an answer to a request for that key, of an instance of the origin `own`, by a label: an origin, a
+-- key and a version, with what stands there
 abbrev pub label_answer : Option (List ℕ) → List ℕ → List ℕ → List ℕ → ℕ → Option Newest
     → Result (List ℕ) Rule
 label_answer None own origin key version found = Err S5

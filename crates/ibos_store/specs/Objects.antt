@@ -1,11 +1,11 @@
--- Stored objects: of each origin the keys in the order of their first put, and of each key its newest
--- version.
+-- Stored objects: of each origin the keys in the order of their first put, and of each key its
+-- newest version.
 use Rattle.std.specs.Prelude.{ℕ, ◌+◌, List, [], ◌∷◌, Bool, ◌&&◌, nat_lt, nat_le, sum_by, length}
 use Rattle.std.specs.Prelude.{bytes_eq, Option, Some, None, if◌then◌else◌}
 use Rattle.std.specs.List.{list_all}
 
--- the newest version of an object: its number, which is the count of the puts; how many bytes it has,
--- or had; and these bytes, unless they were lost
+-- the newest version of an object: its number, which is the count of the puts; how many bytes it
+-- has, or had; and these bytes, unless they were lost
 pub record Newest : Type 0 where
   pub version : ℕ
   pub len : ℕ

@@ -32,7 +32,7 @@ with_ask key requests = record {
 }
 
 -- a request is answered
-abbrev pub without : ℕ → Requests → Requests
-without number requests = record requests {
+abbrev pub without_request : ℕ → Requests → Requests
+without_request number requests = record requests {
   unanswered = filter (λ asked. not (is_numbered number asked)) requests.unanswered;
 }

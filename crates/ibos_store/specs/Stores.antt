@@ -11,8 +11,8 @@ pub record OriginObjects : Type 0 where
   pub origin : List ℕ
   pub objects : List KeyObject
 
--- the objects of each origin that has some, and one place for each instance, of those that were added
--- and not ended
+-- the objects of each origin that has some, and one place for each instance, of those that were
+-- added and not ended
 pub record StoreState : Type 0 where
   pub origins : List OriginObjects
   pub requests : List (Option Requests)

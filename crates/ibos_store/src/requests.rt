@@ -2,7 +2,7 @@
 ghost use Rattle.std.specs.Prelude.{◌≡◌, ◌<◌, ◌^◌, OnOk, OnErr};
 ghost use Rattle.std.specs.Option.{option_copied};
 ghost use Rattle.ibos_store.specs.Requests as spec;
-ghost use Rattle.ibos_store.specs.Requests.{key_in, no_requests, with_ask, without};
+ghost use Rattle.ibos_store.specs.Requests.{key_in, no_requests, with_ask, without_request};
 ghost use Rattle.ibos_store.specs.Answers.{Answers, ask_answer};
 
 use crate::fault::StoreFault;
@@ -101,7 +101,7 @@ impl Requests {
 
     /// A request is answered. Takes no memory.
     pub(crate) fn answer(&mut self, number: u32)
-        ensures { self.new ≡ without number self.old }
+        ensures { self.new ≡ without_request number self.old }
     {
         self.unanswered.retain(|asked| !asked.is_numbered(number));
     }

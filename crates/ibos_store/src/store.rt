@@ -1,10 +1,10 @@
 // All stored objects and requests.
-ghost use Rattle.std.specs.Prelude.{◌≡◌, ◌≢◌, List, ℕ, ◌<◌, ◌^◌, [], None, Some, IfSome, OnOk, OnErr};
-ghost use Rattle.std.specs.Prelude.{IfOk, IsSomeAnd};
+ghost use Rattle.std.specs.Prelude.{◌≡◌, ◌≢◌, ◌<◌, ◌^◌, [], None, Some, IfSome, IsSomeAnd, IfOk};
+ghost use Rattle.std.specs.Prelude.{OnOk, OnErr};
 ghost use Rattle.std.specs.Option.{option_map};
 ghost use Rattle.ibos_kinds.specs.declared.names.Instance.{Instance};
 ghost use Rattle.ibos_store.specs.Objects.{after_loss, after_put, version_of, with_loss, with_put};
-ghost use Rattle.ibos_store.specs.Requests.{no_requests, with_ask, without};
+ghost use Rattle.ibos_store.specs.Requests.{no_requests, with_ask, without_request};
 ghost use Rattle.ibos_store.specs.Answers.{Answers, ask_answer, label_answer, lose_answer};
 ghost use Rattle.ibos_store.specs.Answers.{newest_answer, none_answer, put_answer, quota_answer};
 
@@ -176,7 +176,7 @@ impl Store {
         ensures sealed { IfOk result (λ bytes. IsSomeAnd (key_of self.old who request)
             (λ asked. IsNewest self.old own.now asked version bytes)) }
         ensures own { OnOk result (requests_of self.new who
-            ≡ option_map (without request) (requests_of self.old who)) }
+            ≡ option_map (without_request request) (requests_of self.old who)) }
         ensures once { OnOk result (key_of self.new who request ≡ None) }
         ensures others { SameRequests self.old.requests self.new.requests who }
         ensures objects { self.new.origins ≡ self.old.origins }
@@ -235,7 +235,7 @@ impl Store {
     pub fn none(&mut self, who: Instance, request: u32) -> Result<(), Rule>
         ensures answer { result ≡ none_answer (key_of self.old who request) }
         ensures own { OnOk result (requests_of self.new who
-            ≡ option_map (without request) (requests_of self.old who)) }
+            ≡ option_map (without_request request) (requests_of self.old who)) }
         ensures once { OnOk result (key_of self.new who request ≡ None) }
         ensures others { SameRequests self.old.requests self.new.requests who }
         ensures objects { self.new.origins ≡ self.old.origins }

@@ -1,9 +1,9 @@
 // The requests of all instances.
-ghost use Rattle.std.specs.Prelude.{◌≡◌, ◌≢◌, ℕ, ◌<◌, ◌^◌, None, Some, IfSome, OnOk, OnErr, vec_len};
-ghost use Rattle.std.specs.Prelude.{slice_index_or};
+ghost use Rattle.std.specs.Prelude.{◌≡◌, ◌≢◌, ℕ, ◌<◌, ◌^◌, None, Some, IfSome, OnOk, OnErr};
+ghost use Rattle.std.specs.Prelude.{slice_index_or, vec_len};
 ghost use Rattle.std.specs.Option.{option_copied, option_map};
 ghost use Rattle.ibos_kinds.specs.declared.names.Instance.{Instance};
-ghost use Rattle.ibos_store.specs.Requests.{no_requests, with_ask, without};
+ghost use Rattle.ibos_store.specs.Requests.{no_requests, with_ask, without_request};
 ghost use Rattle.ibos_store.specs.Answers.{Answers, ask_answer};
 ghost use Rattle.ibos_store.specs.Stores.{requests_in, key_at, SameRequests};
 ghost use Rattle.ibos_store.specs.Stores as spec;
@@ -96,7 +96,7 @@ impl RequestTable {
     pub(crate) fn answer(&mut self, who: Instance, number: u32)
         requires { requests_in self.old who ≢ None }
         ensures own { requests_in self.new who
-            ≡ option_map (without number) (requests_in self.old who) }
+            ≡ option_map (without_request number) (requests_in self.old who) }
         ensures once { key_at self.new who number ≡ None }
         ensures others { SameRequests self.old self.new who }
     {

@@ -1,5 +1,4 @@
-use Rattle.std.proofs.Common.{sym, ap, ◌∙◌, Option, Some, None}
-use Rattle.ibos_store.specs.Objects.{Newest}
+use Rattle.std.proofs.Common.{sym, ap, ◌∙◌, None}
 use Rattle.ibos_store.specs.Answers.{lose_answer}
 use Rattle.ibos_store.proofs.Finding.{newest_found}
 use Rattle.ibos_store.proofs.Putting.{then_ok, then_err, is_held, lost_kept, lost_set, same_set}

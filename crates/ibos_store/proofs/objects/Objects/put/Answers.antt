@@ -1,4 +1,4 @@
-use Rattle.std.proofs.Common.{◌≡◌, ℕ, ◌+◌, ◌<◌, ◌∙◌, refl, sym, ap, subst, arith}
+use Rattle.std.proofs.Common.{ℕ, ◌+◌, ◌<◌, ◌∙◌, refl, sym, ap, subst, arith}
 use Rattle.ibos_store.proofs.Putting.{on_err, quota_refused, quota_allowed, put_version, put_set, same_set, len_within, count_within, put_over, same_kept, put_kept, new_version, new_within, new_over, new_set, new_kept}
 use Rattle.ibos_store.proofs.objects.Objects.put.Goals as goal
 

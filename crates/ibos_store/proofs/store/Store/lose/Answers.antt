@@ -1,4 +1,4 @@
-use Rattle.std.proofs.Common.{◌≡◌, List, [], refl, sym, ◌∙◌, ap, Some, None}
+use Rattle.std.proofs.Common.{List, refl, sym, ◌∙◌, ap, Some, None}
 use Rattle.ibos_store.specs.Objects.{KeyObject, newest_in, with_loss}
 use Rattle.ibos_store.specs.Answers.{lose_answer}
 use Rattle.ibos_store.specs.Stores.{OriginObjects, StoreState, objects_of, origin_objects}

@@ -1,4 +1,4 @@
-use Rattle.std.proofs.Common.{rules, ◌≡◌, ◌<◌, List, [], refl, sym, ◌∙◌, ap, subst, Some, None}
+use Rattle.std.proofs.Common.{rules, ◌<◌, List, refl, sym, ◌∙◌, ap, subst, Some, None}
 use Rattle.ibos_store.specs.Objects.{KeyObject, newest_in, after_put, version_of, with_put}
 use Rattle.ibos_store.specs.Answers.{Answers, quota_answer}
 use Rattle.ibos_store.specs.Stores.{OriginObjects, StoreState, objects_of, origin_objects}

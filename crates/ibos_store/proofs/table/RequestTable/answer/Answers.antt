@@ -1,10 +1,8 @@
-use Rattle.std.proofs.Common.{◌≡◌, ◌≢◌, ◌<◌, ℕ, List, length, Option, None, Some, Result, sym, ◌∙◌, ap, subst, arith}
-use Rattle.std.specs.Prelude.{IfSome, ◌^◌}
+use Rattle.std.proofs.Common.{◌≡◌, ◌≢◌, ◌<◌, List, length, Option, None, Some, sym, ◌∙◌, ap, subst, arith}
 use Rattle.std.specs.Option.{option_map}
-use Rattle.ibos_store.specs.Requests.{Requests, with_ask, without}
-use Rattle.ibos_store.specs.Answers.{Answers, ask_answer}
+use Rattle.ibos_store.specs.Requests.{Requests, without_request}
 use Rattle.ibos_store.specs.Stores.{requests_in}
-use Rattle.ibos_store.proofs.Places.{answered_once, held_by, requests_within, then_ok}
+use Rattle.ibos_store.proofs.Places.{answered_once, held_by, requests_within}
 use Rattle.ibos_store.proofs.table.RequestTable.answer.Goals as goal
 
 pub index_mut-requires : goal.index_mut-requires
@@ -22,7 +20,7 @@ pub returns-clause-own : goal.returns-clause-own
 returns-clause-own c =
     let at = held_by c.self.inside.places.items c.args.self.now c.args.who c.place_of.result c.index_mut.result.now c.self.view_is c.requires c.place_of.ensures.place c.place_of.ensures.tab c.index_mut.ensures.value in
     let was : requests_in c.args.self.now c.args.who ≡ Some c.in-Some.requests = sym (ap (λ t. requests_in t c.args.who) c.self.view_is) ∙ at.was ∙ c.in-Some.is in
-    at.own (Some c.answer.new.self) ∙ ap (λ (r : Requests). Some r) c.answer.ensures ∙ sym (ap (λ (x : Option Requests). option_map (without c.args.number) x) was)
+    at.own (Some c.answer.new.self) ∙ ap (λ (r : Requests). Some r) c.answer.ensures ∙ sym (ap (λ (x : Option Requests). option_map (without_request c.args.number) x) was)
 
 pub returns-clause-others : goal.returns-clause-others
 returns-clause-others c q other =

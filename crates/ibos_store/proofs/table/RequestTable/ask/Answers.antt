@@ -1,10 +1,11 @@
-use Rattle.std.proofs.Common.{◌≡◌, ◌≢◌, ◌<◌, ℕ, List, length, Option, None, Some, Result, sym, ◌∙◌, ap, subst, arith}
+use Rattle.std.proofs.Common.{◌≡◌, ◌≢◌, ◌<◌, List, length, Option, None, Some, sym, ◌∙◌, ap, subst, arith}
 use Rattle.std.specs.Prelude.{IfSome, ◌^◌}
 use Rattle.std.specs.Option.{option_map}
-use Rattle.ibos_store.specs.Requests.{Requests, with_ask, without}
+use Rattle.ibos_store.specs.Requests.{Requests, with_ask}
 use Rattle.ibos_store.specs.Answers.{Answers, ask_answer}
 use Rattle.ibos_store.specs.Stores.{requests_in}
-use Rattle.ibos_store.proofs.Places.{held_by, requests_within, then_ok}
+use Rattle.ibos_store.proofs.Places.{held_by, requests_within}
+use Rattle.ibos_store.proofs.Putting.{then_ok}
 use Rattle.ibos_store.proofs.table.RequestTable.ask.Goals as goal
 
 pub index_mut-requires : goal.index_mut-requires
