@@ -1,14 +1,14 @@
 -- What an act makes of the tables stands for the journal with its entry.
-use Rattle.std.proofs.Common.{◌≡◌, ◌≢◌, ℕ, ◌+◌, ◌<◌, Bool, true, false, List, [], ◌∷◌, length, Option, Some, None, Ok, Err, Result, refl, sym, ◌∙◌, ap, subst, arith}
+use Rattle.std.proofs.Common.{◌≡◌, ◌≢◌, ℕ, ◌<◌, Bool, true, false, List, [], ◌∷◌, length, Option, Some, None, Ok, Err, Result, refl, sym, ◌∙◌, ap, subst, arith}
 use Rattle.std.specs.Prelude.{bytes_eq, ◌-◌, ◌&&◌, ◌==◌, option_map, if◌then◌else◌}
 use Rattle.std.proofs.lemmas.Bool.Decides.{nat_tests}
 use Rattle.ibos_kinds.specs.Cookies.{cookie_in, set_breaks, put}
 use Rattle.ibos_kinds.specs.declared.names.Instance.{Instance}
 use Rattle.ibos_kinds.specs.declared.rule.Rule.{Rule}
 use Rattle.ibos_kinds.specs.declared.act.Act.{Act}
-use Rattle.ibos_kinds.specs.declared.act.Act.TheVariants.{Start, Switch, Close, Press, Click, Look, Go, Draw, CookieSet, CookieGet}
+use Rattle.ibos_kinds.specs.declared.act.Act.TheVariants.{Start, Switch, Close, Press, Go, CookieSet}
 use Rattle.ibos_kinds.specs.declared.names.Key.{Key}
-use Rattle.ibos_kinds.specs.declared.names.Key.TheVariants.{Byte, Enter, Back}
+use Rattle.ibos_kinds.specs.declared.names.Key.TheVariants.{Enter}
 use Rattle.ibos_focus.specs.declared.focus.Spot.TheVariants.{Entry}
 use Rattle.ibos_kinds.specs.declared.outcome.Outcome.{Outcome}
 use Rattle.ibos_kinds.specs.Limits.{Fits}
@@ -21,12 +21,11 @@ use Rattle.ibos_cookie.specs.Jars.{OriginJar, jar_of}
 use Rattle.ibos_model.specs.Journal.{Journal, is_ok}
 use Rattle.ibos_model.specs.Tabs.{Tabs, Opens, Moves, Ends, changed, tabs, next_in, origin_of}
 use Rattle.ibos_model.specs.Focus.{active_tab, focus_of}
-use Rattle.ibos_model.specs.Screen.{cell_of, screen}
-use Rattle.ibos_frame.specs.ScreenStates.{seen_at}
+use Rattle.ibos_model.specs.Screen.{cell_of}
 use Rattle.ibos_model.specs.Jars.{jar, sets_of, with_set}
 use Rattle.ibos_model.specs.Outcomes.{accepted, answer, start_outcome, switch_outcome, close_outcome, go_outcome, out}
 use Rattle.ibos_model.specs.Runs.{IsRun}
-use Rattle.ibos_kernel.specs.Tables.{Tables, Parts, IsBeside, IsComposed, is_entry, origin_at, let_in, with_started, with_gone, with_entered, tabs_after, jar_after, Serves}
+use Rattle.ibos_kernel.specs.Tables.{Parts, IsBeside, IsComposed, is_entry, origin_at, let_in, with_started, with_gone, with_entered, tabs_after, jar_after, Serves}
 use Rattle.ibos_net.specs.NetStanding.{is_net}
 use Rattle.ibos_kernel.specs.Standing.{TabsStand, PartsStand, entry}
 use Rattle.ibos_kernel.proofs.LogsGrow.{written_fits}
@@ -37,9 +36,9 @@ use Rattle.ibos_page.specs.Tabs.{without}
 use Rattle.ibos_model.specs.Focus.{without as spec_without}
 use Rattle.ibos_model.specs.Tabs.{changed_by, opening, leave, entering, end, if_ok}
 use Rattle.ibos_model.specs.Outcomes.{page_key_outcome}
-use Rattle.ibos_model.specs.Laws.{AreSetsPut, IsCarried, IsCarriedAlways}
+use Rattle.ibos_model.specs.Laws.{AreSetsPut}
 use Rattle.ibos_kernel.proofs.TabsStanding.{seat-with}
-use Rattle.ibos_kernel.proofs.Outcomes.{outcome_seen, outcome-seen, outcome_stands, lives_if, enter_seen, active_same, active_lives, seen_screen}
+use Rattle.ibos_kernel.proofs.Outcomes.{outcome_seen, outcome-seen, outcome_stands, lives_if, enter_seen, active_same, active_lives}
 use Rattle.ibos_kernel.proofs.ScreenStands.{step_displays, active_within, start_page, let_in_ok}
 
 -- a kernel that has made no act

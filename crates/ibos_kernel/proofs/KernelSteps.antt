@@ -1,5 +1,5 @@
 -- What both halves stand for, as the kernel says it.
-use Rattle.std.proofs.Common.{◌≡◌, ℕ, ◌+◌, ◌<◌, ◌≤◌, Bool, true, false, List, [], ◌∷◌, length, zero, suc, refl, sym, ◌∙◌, ap, subst, arith}
+use Rattle.std.proofs.Common.{◌≡◌, ℕ, ◌+◌, ◌<◌, Bool, true, List, [], ◌∷◌, suc, refl, sym, ◌∙◌, ap, subst, arith}
 use Rattle.std.specs.Prelude.{slice_index_or}
 use Rattle.ibos_kinds.specs.declared.act.Act.{Act}
 use Rattle.ibos_kinds.specs.declared.names.Endpoint.{Endpoint}
@@ -12,7 +12,7 @@ use Rattle.ibos_origin.specs.Hosts.{HostTable}
 use Rattle.ibos_page.specs.Seats.{Seat}
 use Rattle.ibos_page.specs.Tabs.{TabTable, empty_seat, seat_at}
 use Rattle.ibos_frame.specs.ScreenStates.{seen_at}
-use Rattle.ibos_model.specs.Journal.{Journal, is_ok}
+use Rattle.ibos_model.specs.Journal.{Journal}
 use Rattle.ibos_model.specs.Laws.{IsCarried, IsCarriedAlways}
 use Rattle.ibos_model.specs.Logs.{Loses, sent_in, written_in}
 use Rattle.ibos_model.specs.Network.{Network, network, no_network}

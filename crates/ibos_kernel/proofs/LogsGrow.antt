@@ -5,10 +5,9 @@ use Rattle.std.proofs.lemmas.List.{append-nil}
 use Rattle.ibos_kinds.specs.declared.act.Act.{Act}
 use Rattle.ibos_kinds.specs.declared.outcome.Item.{Item}
 use Rattle.ibos_kinds.specs.declared.outcome.Item.TheVariants.{VerdictIs}
-use Rattle.ibos_kinds.specs.declared.names.Verdict.TheVariants.{Heard, Missed, Filtered}
+use Rattle.ibos_kinds.specs.declared.names.Verdict.TheVariants.{Heard}
 use Rattle.ibos_kinds.specs.declared.outcome.Outcome.{Outcome}
 use Rattle.ibos_nic.specs.declared.log.LogEntry.{LogEntry}
-use Rattle.ibos_nic.specs.declared.log.LogEntry.TheVariants.{In}
 use Rattle.ibos_model.specs.Journal.{Journal, Kind, Hears, Sends, Nothing, frame_of, heard, hears, is_heard, kind_in, kind_of}
 use Rattle.ibos_model.specs.Logs.{got_for, log_after, log_by, newest_in, sent_in, written_in}
 use Rattle.ibos_model.specs.Runs.{IsWritten}

@@ -1,5 +1,5 @@
 -- After an act of the pages' half the net half stands for the journal with its entry.
-use Rattle.std.proofs.Common.{◌≡◌, ◌≢◌, ℕ, ◌+◌, ◌<◌, ◌≤◌, Bool, true, false, List, [], ◌∷◌, Option, Some, None, Ok, IfSome, refl, sym, ◌∙◌, ap, subst, arith}
+use Rattle.std.proofs.Common.{◌≡◌, ℕ, ◌+◌, ◌<◌, ◌≤◌, false, List, [], ◌∷◌, Option, Some, None, Ok, IfSome, refl, sym, ◌∙◌, ap, subst, arith}
 use Rattle.ibos_kinds.specs.declared.act.Act.{Act}
 use Rattle.ibos_kinds.specs.declared.act.Act.TheVariants.{Start, Switch, Close, Press, Click, Look, Go, Draw, CookieSet, CookieGet}
 use Rattle.ibos_kinds.specs.declared.names.Endpoint.{Endpoint}
@@ -8,7 +8,10 @@ use Rattle.ibos_kinds.specs.declared.outcome.Outcome.{Outcome}
 use Rattle.ibos_kinds.specs.Limits.{Fits, IsNamed}
 use Rattle.ibos_nic.specs.declared.log.LogEntry.{LogEntry}
 use Rattle.ibos_nic.specs.Registers.{Registers}
+use Rattle.ibos_origin.specs.Endpoints.{origin_endpoint}
 use Rattle.ibos_origin.specs.Hosts.{HostTable}
+use Rattle.ibos_origin.specs.Pages.{Page, allowed, endpoint_of}
+use Rattle.ibos_origin.specs.Tables.{HasPlainNames}
 use Rattle.ibos_page.specs.Tabs.{TabTable, live_at, seat_at}
 use Rattle.ibos_model.specs.Focus.{focus_of}
 use Rattle.ibos_model.specs.Journal.{Journal, frame_of, is_ok}
@@ -26,6 +29,14 @@ use Rattle.ibos_kernel.proofs.ActsStand.{step_holds, step_told}
 use Rattle.ibos_kernel.proofs.LogsGrow.{written_grows}
 use Rattle.ibos_kernel.proofs.Turns.{Turn, turn_kind, turn_seen}
 use Rattle.ibos_kernel.proofs.Turned.{AreAtOrigins, Starting, Turned, turned}
+
+-- the law of endpoints, of one host table
+pub origins_of : (H hosts : HostTable) → hosts ≡ H → HasPlainNames hosts → ((T : HostTable) (text : List ℕ) (page : Page) → HasPlainNames T → allowed T text ≡ Ok page → origin_endpoint T page.origin ≡ Some (endpoint_of page))
+    → AreAtOrigins H
+origins_of H hosts is plain law =
+    let P : HostTable → Type 0 = HasPlainNames in
+    let here = subst P is plain in
+    λ text page allows. law H text page here allows
 
 -- flows, frames and rings stay
 pub page_network : (J : Journal) (act : Act) (outcome : Outcome) (log : List LogEntry) → is_net act ≡ false → network (entry act outcome log ∷ J) ≡ network J

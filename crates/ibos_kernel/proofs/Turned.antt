@@ -1,8 +1,7 @@
 -- Lives, endpoints and counts after an act of the pages' half.
-use Rattle.std.proofs.Common.{◌≡◌, ◌≢◌, ℕ, ◌+◌, ◌*◌, ◌-◌, ◌<◌, ◌≤◌, Bool, true, false, List, [], ◌∷◌, length, length-set, Option, Some, None, Ok, IfSome, refl, sym, ◌∙◌, ap, subst, arith}
-use Rattle.std.specs.Prelude.{is_some, nat_lt, slice_set, unwrap_or, ◌==◌, if◌then◌else◌}
+use Rattle.std.proofs.Common.{◌≡◌, ◌≢◌, ℕ, ◌+◌, ◌-◌, ◌<◌, ◌≤◌, Bool, true, false, List, length, length-set, Option, Some, None, Ok, IfSome, refl, sym, ◌∙◌, ap, subst, arith}
+use Rattle.std.specs.Prelude.{slice_set, unwrap_or, ◌==◌, if◌then◌else◌}
 use Rattle.std.proofs.lemmas.Bool.Decides.{nat_tests}
-use Rattle.ibos_kinds.specs.declared.names.Endpoint.{Endpoint}
 use Rattle.ibos_kinds.specs.declared.names.Instance.{Instance}
 use Rattle.ibos_kinds.specs.declared.outcome.Item.{Item}
 use Rattle.ibos_kinds.specs.Limits.{IsNamed}
@@ -10,12 +9,12 @@ use Rattle.ibos_origin.specs.Endpoints.{origin_endpoint}
 use Rattle.ibos_origin.specs.Hosts.{HostTable}
 use Rattle.ibos_origin.specs.Pages.{Page, allowed, endpoint_of}
 use Rattle.ibos_page.specs.Seats.{Seat}
-use Rattle.ibos_page.specs.Tabs.{TabTable, closed, is_live_in, live_at, live_in, moved, next_at, opened, seat_at, with_seat}
+use Rattle.ibos_page.specs.Tabs.{TabTable, closed, live_at, live_in, moved, next_at, opened, seat_at}
 use Rattle.ibos_model.specs.Journal.{same}
 use Rattle.ibos_model.specs.Network.{endpoint_for, no_endpoint}
-use Rattle.ibos_model.specs.Tabs.{Change, Opens, Moves, Ends, Life, Unborn, Alive, Gone, Tabs, at, changed, changed_by, life_in, life_with, origin_in, origin_with}
+use Rattle.ibos_model.specs.Tabs.{Change, Unborn, Alive, Gone, Tabs, at, changed_by, life_in, life_with, origin_in, origin_with}
 use Rattle.ibos_kernel.specs.Tables.{started}
-use Rattle.ibos_kernel.specs.Standing.{TabsStand, life_at, life_by}
+use Rattle.ibos_kernel.specs.Standing.{TabsStand}
 use Rattle.ibos_kernel.specs.Halves.{begun, ended_in, opened_in, remotes_with, with_begun, with_ended}
 use Rattle.ibos_kernel.proofs.Areas.{started_few, started_set}
 use Rattle.ibos_kernel.proofs.ScreenStands.{active_within}

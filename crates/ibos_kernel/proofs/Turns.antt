@@ -1,6 +1,6 @@
 -- Which instance an act of the pages' half ends, and which one it starts.
-use Rattle.std.proofs.Common.{◌≡◌, ◌≢◌, ℕ, ◌+◌, ◌-◌, ◌<◌, Bool, true, false, List, [], ◌∷◌, Option, Some, None, Result, Ok, Err, refl, sym, ◌∙◌, ap, subst, arith}
-use Rattle.std.specs.Prelude.{bytes_eq, nat_lt, is_some, slice_set, ◌&&◌, ◌==◌, not, if◌then◌else◌}
+use Rattle.std.proofs.Common.{◌≡◌, ℕ, ◌-◌, ◌<◌, Bool, true, false, List, [], ◌∷◌, Option, Some, None, Result, Ok, Err, refl, sym, ◌∙◌, ap, subst, arith}
+use Rattle.std.specs.Prelude.{bytes_eq, nat_lt, slice_set, ◌&&◌, not, if◌then◌else◌}
 use Rattle.std.proofs.lemmas.Bool.Decides.{nat_tests}
 use Rattle.ibos_kinds.specs.declared.names.Instance.{Instance}
 use Rattle.ibos_kinds.specs.declared.names.Key.{Key}
@@ -21,9 +21,9 @@ use Rattle.ibos_origin.specs.Pages.{Page, allowed}
 use Rattle.ibos_page.specs.Seats.{Seat}
 use Rattle.ibos_page.specs.Tabs.{TabTable, seat_at, live_at, active_in, next_at, admission, opened, moved, closed, with_seat, without}
 use Rattle.ibos_cookie.specs.Jars.{jar_of}
-use Rattle.ibos_model.specs.Focus.{Focus, focus_of}
+use Rattle.ibos_model.specs.Focus.{focus_of}
 use Rattle.ibos_model.specs.Journal.{Journal, Nothing, is_ok, kind_in}
-use Rattle.ibos_model.specs.Tabs.{Change, Opens, Moves, Ends, Tabs, active_of, changes, entering, if_ok, leave, end, next_in, opening, origin_in, tabs}
+use Rattle.ibos_model.specs.Tabs.{Change, Opens, Moves, Ends, Tabs, changes, entering, if_ok, leave, end, next_in, opening, tabs}
 use Rattle.ibos_model.specs.Outcomes.{accepted, answer, click_outcome, close_outcome, content_click_outcome, denied, go_outcome, open_outcome, page_key_outcome, start_outcome, switch_outcome}
 use Rattle.ibos_net.specs.NetStanding.{is_net}
 use Rattle.ibos_kernel.specs.Tables.{Parts, is_entry, let_in, origin_at, tabs_after, with_entered, with_gone, with_started}

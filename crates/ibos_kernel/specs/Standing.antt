@@ -14,8 +14,8 @@ use Rattle.ibos_cookie.specs.Jars.{jar_of}
 use Rattle.ibos_model.specs.Journal.{Journal, Entry, heard}
 use Rattle.ibos_model.specs.Logs.{got_for, sent_in, written_in}
 use Rattle.ibos_model.specs.Network.{endpoint_for, network}
-use Rattle.ibos_model.specs.Tabs.{Tabs, Life, Unborn, Alive, Gone, tabs, life_in, life_of, origin_in}
-use Rattle.ibos_model.specs.Tabs.{origin_of}
+use Rattle.ibos_model.specs.Tabs.{Tabs, Life, Unborn, Alive, Gone, tabs, life_in, life_of}
+use Rattle.ibos_model.specs.Tabs.{origin_in, origin_of}
 use Rattle.ibos_kinds.specs.Screens.{space}
 use Rattle.ibos_frame.specs.ScreenStates.{content_at}
 use Rattle.ibos_model.specs.Focus.{active_tab, focus_of}

@@ -1,5 +1,5 @@
 // Both halves of the kernel, and the acts of each.
-ghost use Rattle.std.specs.Prelude.{◌≡◌, ◌≢◌, ◌<◌, ◌≤◌, ◌+◌, ◌^◌, ℕ, [], ◌∷◌, List, None, Some, true};
+ghost use Rattle.std.specs.Prelude.{◌≡◌, ◌<◌, ◌≤◌, ◌+◌, ◌^◌, ℕ, [], ◌∷◌, List, None, Some, true};
 ghost use Rattle.std.specs.Prelude.{false, IfSome, IsOk, OnErr, OnOk};
 ghost use Rattle.ibos_kinds.specs.declared.names.Endpoint.{Endpoint};
 ghost use Rattle.ibos_kinds.specs.declared.names.Instance.{Instance};

@@ -3,7 +3,7 @@ use Rattle.std.proofs.Common.{refl, sym, ◌∙◌, ap, subst, arith}
 use Rattle.std.proofs.lemmas.Bool.Decides.{nat_tests}
 use Rattle.std.proofs.lemmas.List.{append-nil}
 use Rattle.ibos_recv.specs.Inboxes.{frames_at}
-use Rattle.ibos_net.proofs.Words.{ℕ, ◌≡◌, ◌≢◌, ◌<◌, ◌≤◌, ◌+◌, ◌++◌, ◌∷◌, Bool, true, false, List, [], Option, None, Some, length, Instance, Life, Alive, Endpoint, Local, AreAtHand, AreOwned, AreUnheld, Bound, no_flows, bound_to, ear_with, Table, bound_by, Inboxes, inbox_by, frames_of, if◌then◌else◌, held_in, IsAtDevice, IsInMemory, IsSafe, Mediated, MediatesBut, Memory, Names, Name, Network, NetState, NetStands, Place, Ring, RingView, Receive, Transmit, RingPart, Part, Base, High, Length, HeadPart, Tail, Control, Reg, Registers, RingsStand, Rings, Held, IsNameIn, is_lent_at, is_taken, place_of, buffer_at, bytes_at, completed, max_areas, part_of, received_frames, reg_of, ring_of, value_of, with_life, with_remote, same, new_inbox}
+use Rattle.ibos_net.proofs.Words.{ℕ, ◌≡◌, ◌≢◌, ◌<◌, ◌≤◌, ◌+◌, ◌++◌, Bool, true, false, List, [], Option, None, Some, length, Instance, Life, Alive, Endpoint, AreAtHand, no_flows, ear_with, Table, bound_by, Inboxes, inbox_by, frames_of, if◌then◌else◌, held_in, IsAtDevice, IsSafe, Mediated, MediatesBut, Memory, Names, Name, Network, NetState, NetStands, Place, Receive, Transmit, RingPart, Base, High, Length, HeadPart, Tail, Control, Registers, RingsStand, Rings, Held, IsNameIn, is_lent_at, is_taken, place_of, bytes_at, completed, max_areas, part_of, received_frames, ring_of, value_of, with_life, with_remote, same, new_inbox}
 
 -- ---- the situation over the registers that the rings ask for
 
@@ -129,7 +129,7 @@ begun-stands life remotes n t t' who remote names area s flows unread med done r
   rings = subst (λ m. RingsStand n.rings n.pending m t'.mem) (sym med) (rings-grown n.rings n.pending t.med t.mem t'.mem s.rings done received);
   ears = λ p. by-one who p
       (λ is. subst (λ q. bound_by t'.flows q ≡ ear_with (with_life who Alive life q) (with_remote who remote remotes q) (n.flows q)) (sym is)
-          (flows-own ∙ ap (λ xs. ear_with Alive remote xs) (sym flows) ∙ ap (λ b. ear_with (if b then Alive else life who) (if b then remote else remotes who) (n.flows who)) (sym (same-self who))))
+      (flows-own ∙ ap (λ xs. ear_with Alive remote xs) (sym flows) ∙ ap (λ b. ear_with (if b then Alive else life who) (if b then remote else remotes who) (n.flows who)) (sym (same-self who))))
       (λ differ not. flows-others p differ ∙ s.ears p ∙ ap (λ b. ear_with (if b then Alive else life p) (if b then remote else remotes p) (n.flows p)) (sym not));
   unread = λ p alive. by-one who p
       (λ is. subst (λ q. frames_of t'.mem t'.inboxes q ≡ n.unread q) (sym is) (ap (frames_at t'.mem) inbox-own ∙ sym unread))

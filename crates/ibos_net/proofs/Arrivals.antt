@@ -1,21 +1,14 @@
 -- A frame comes: what the device made of it is what the journal says.
 use Rattle.std.proofs.Common.{refl, sym, ◌∙◌, ap, subst, inl, inr}
 use Rattle.std.proofs.lemmas.List.{append-nil}
-use Rattle.ibos_net.proofs.Words.{ℕ, ◌≡◌, ◌+◌, ◌-◌, ◌^◌, ◌++◌, ◌∷◌, List, [], Bool, true, false, Result, Ok, Err, length, min, bit_or, if◌then◌else◌, IsInMemory, IsAtDevice, Local, Mediated, Memory, Names, Network, Rings, RingsStand, RingView, Registers, Receive, Ring, Reg, Ctrl, Icr, Imc, Ims, Mpc, Rah0, Ral0, Status, Rctl, NoMemory, Verdict, Filtered, Missed, Heard, VerdictIs, completed, received_frames, IsHeard, HasArrived, Keeps, SameNames, arrived, overrun_cause, received_cause, held_in, frames_of, AreAtHand, Inboxes, Instance, Life, Endpoint, NetStands, NetMakes, NetState, AreRegisters, IsSafe, WireIn, accepted, LogEntry, In, is_enabled, register, verdict_of, verdict_at, Loses, Leaves, newest_in, got_for, Outcome, IfOk, net_outcome, is_heard, after_arrive, with_reg}
+use Rattle.ibos_net.proofs.Words.{ℕ, ◌≡◌, ◌+◌, ◌-◌, ◌^◌, ◌++◌, ◌∷◌, List, [], Bool, true, false, Result, Ok, length, min, bit_or, if◌then◌else◌, Local, Mediated, Memory, Network, Rings, RingsStand, Registers, Receive, Reg, Ctrl, Icr, Imc, Ims, Mpc, Rah0, Ral0, Status, Rctl, NoMemory, Verdict, Filtered, Missed, Heard, VerdictIs, completed, received_frames, IsHeard, HasArrived, Keeps, SameNames, arrived, overrun_cause, received_cause, held_in, frames_of, AreAtHand, Inboxes, Instance, Life, Endpoint, NetStands, NetMakes, NetState, AreRegisters, IsSafe, WireIn, accepted, LogEntry, is_enabled, verdict_of, verdict_at, Loses, net_outcome, is_heard, with_reg}
 use Rattle.ibos_nic.specs.Device.{OnHeard, OnUnheard}
 use Rattle.ibos_nic.specs.Registers.{after_missed, with_cause}
 use Rattle.ibos_net.proofs.AtDevice.{AreOthers, at-device, from-device, others-of}
 use Rattle.ibos_net.proofs.OwnAddress.{verdict-same}
-use Rattle.ibos_net.proofs.PostMade.{frames-stay}
 
 abbrev pub with_mem : Memory → NetState → NetState
 with_mem mem t = record t { mem = mem }
-
-pub areas-arrived : (mem mem' : Memory) (regs : Registers) (frame : List ℕ) (log log' : List LogEntry) (result : Result Verdict NoMemory) → OnHeard result (IsHeard mem mem' regs frame log log') → OnUnheard result (mem' ≡ mem) → length mem' ≡ length mem
-areas-arrived mem mem' regs frame log log' (Ok Heard) heard unheard = heard.2.areas
-areas-arrived mem mem' regs frame log log' (Ok Missed) heard unheard = ap length unheard
-areas-arrived mem mem' regs frame log log' (Ok Filtered) heard unheard = ap length unheard
-areas-arrived mem mem' regs frame log log' (Err e) heard unheard = ap length unheard
 
 pub arrived-safe : (t : NetState) (mem' : Memory) (result : Result Verdict NoMemory) → IsSafe t → Keeps [] t.med t.med t.mem mem' (HasArrived result) SameNames → AreAtHand t.names mem' (held_in t.inboxes) → IsSafe (with_mem mem' t)
 arrived-safe t mem' result safe keeps hands = record {

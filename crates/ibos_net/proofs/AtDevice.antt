@@ -1,6 +1,6 @@
 -- The registers of the journal are those of the rings, and eight others.
-use Rattle.std.proofs.Common.{refl, sym, ◌∙◌, ap, arith}
-use Rattle.ibos_net.proofs.Words.{ℕ, ◌≡◌, ◌≤◌, ◌<◌, ◌%◌, List, IsInMemory, IsAtDevice, Local, Mediated, Memory, Network, Rings, RingsStand, Registers, Receive, Transmit, Ring, Part, Base, High, Length, HeadPart, Tail, Control, Reg, Ctrl, Icr, Imc, Ims, Mpc, Rah0, Ral0, Rctl, Rdbah, Rdbal, Rdh, Rdlen, Rdt, Status, Tctl, Tdbah, Tdbal, Tdh, Tdlen, Tdt, reg_of, value_of, completed, ring_of, register, slot_of, RingValues, address_high, address_low}
+use Rattle.std.proofs.Common.{sym, ◌∙◌, ap, arith}
+use Rattle.ibos_net.proofs.Words.{ℕ, ◌≡◌, ◌%◌, List, IsInMemory, IsAtDevice, Local, Mediated, Memory, Rings, RingsStand, Registers, Receive, Transmit, Base, High, Length, HeadPart, Tail, Control, Reg, Ctrl, Icr, Imc, Ims, Mpc, Rah0, Ral0, Rctl, Rdbah, Rdbal, Rdh, Rdlen, Rdt, Status, Tctl, Tdbah, Tdbal, Tdh, Tdlen, Tdt, completed, register, RingValues, address_high, address_low}
 
 -- the registers that are part of no ring
 pub record AreOthers (local : Local) (rings : Rings) (regs : Registers) : Type 0 where

@@ -1,6 +1,6 @@
 -- A run begins: nothing is held, bound or heard.
-use Rattle.std.proofs.Common.{refl, sym, ◌∙◌, ap, subst, arith}
-use Rattle.ibos_net.proofs.Words.{ℕ, ◌≡◌, ◌≢◌, ◌<◌, ◌≤◌, ◌+◌, List, [], None, Option, Alive, Unborn, Life, AreAtHand, AreOwned, AreUnheld, Arrival, Endpoint, Held, Inboxes, Instance, IsInMemory, IsOneToOne, IsSafe, Mediated, Memory, Names, Name, NetStands, NetState, Receive, Transmit, Ring, RingView, RingValues, Table, arrivals, bound_by, completed, ear_with, held_in, inbox_by, length, map, names_of, no_network, no_ring, received_frames, receive_buffers, ring_of, max_areas}
+use Rattle.std.proofs.Common.{sym, ◌∙◌, ap, subst, arith}
+use Rattle.ibos_net.proofs.Words.{◌≡◌, [], None, Alive, Unborn, Life, AreAtHand, AreOwned, AreUnheld, Arrival, Endpoint, Instance, IsInMemory, IsSafe, Mediated, NetStands, NetState, Receive, Transmit, Ring, RingView, arrivals, bound_by, completed, ear_with, held_in, inbox_by, length, map, names_of, no_network, no_ring, received_frames, receive_buffers, ring_of}
 use Rattle.std.specs.Prelude.{replicate}
 
 rings-none : (m : Mediated) → m.receive ≡ no_ring → m.transmit ≡ no_ring → (ring : Ring) → ring_of m ring ≡ no_ring

@@ -1,8 +1,7 @@
 -- The items of a bell: what is bound, what is unread where something is bound, and the handles of the frames.
 use Rattle.std.proofs.Common.{refl, sym, ◌∙◌, ap, subst, arith}
-use Rattle.std.proofs.lemmas.Bool.Decides.{nat_tests}
-use Rattle.ibos_net.proofs.Words.{ℕ, zero, suc, ◌≡◌, ◌≢◌, ◌≤◌, ◌<◌, ◌+◌, ◌-◌, ◌++◌, ◌∷◌, Bool, true, false, List, [], Option, None, Some, Result, Ok, Err, Bound, Handle, Held, Instance, Item, Local, Rule, length, map, take, drop, same, if◌then◌else◌, slice_index_or, no_buffer, range_with_len}
-use Rattle.ibos_kinds.specs.Bells.{Aim, aim_of, at, bell, first_handle, frame_item, frame_rule, heard_item, other_handles, rule_by, unread_after, unread_then}
+use Rattle.ibos_net.proofs.Words.{ℕ, zero, suc, ◌≡◌, ◌≢◌, ◌≤◌, ◌+◌, ◌∷◌, Bool, true, false, List, [], Option, None, Some, Result, Ok, Err, Bound, Handle, Held, Instance, Local, Rule, length, map, take, same, if◌then◌else◌, slice_index_or, no_buffer, range_with_len}
+use Rattle.ibos_kinds.specs.Bells.{Aim, aim_of, bell, frame_item, frame_rule, heard_item, other_handles, rule_by, unread_after, unread_then}
 use Rattle.ibos_kinds.specs.Flows.{admitted_by}
 use Rattle.ibos_model.specs.Journal.{kind_in, Nothing}
 use Rattle.ibos_net.proofs.AreasGrown.{same-is}
@@ -38,8 +37,10 @@ pub bell-agrees : (local : Local) (ears ears' : Instance → Option Bound) (unre
 unfolding bell
 bell-agrees local ears ears' unread unread' same_ears agree hs [] = refl
 bell-agrees local ears ears' unread unread' same_ears agree hs (w ∷ ws) =
-    rw (item-agrees ears ears' unread unread' same_ears agree w (aim_of local w),
-    bell-agrees local ears ears' (unread_then ears unread (aim_of local w)) (unread_then ears' unread' (aim_of local w)) same_ears (unread-agrees ears ears' unread unread' same_ears agree (aim_of local w)) (other_handles hs) ws) refl
+    rw (
+      item-agrees ears ears' unread unread' same_ears agree w (aim_of local w),
+      bell-agrees local ears ears' (unread_then ears unread (aim_of local w)) (unread_then ears' unread' (aim_of local w)) same_ears (unread-agrees ears ears' unread unread' same_ears agree (aim_of local w)) (other_handles hs) ws,
+    ) refl
 
 -- a bell asks for as many handles as there are frames
 pub bell-front : (local : Local) (ears : Instance → Option Bound) (unread : Instance → ℕ) (ws : List (List ℕ)) (hs : List Handle) (count : ℕ) → length ws ≤ count → bell local ears unread (take count hs) ws ≡ bell local ears unread hs ws

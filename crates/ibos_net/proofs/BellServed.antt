@@ -1,9 +1,9 @@
 -- A receive bell makes of the net half what the journal says.
 use Rattle.std.proofs.Common.{refl, sym, ◌∙◌, ap, subst, arith}
 use Rattle.std.specs.Prelude.{filter}
-use Rattle.ibos_net.proofs.Words.{ℕ, ◌≡◌, ◌≢◌, ◌≤◌, ◌<◌, ◌+◌, ◌-◌, ◌++◌, ◌∷◌, List, [], Option, None, Some, Alive, AreAtHand, AreOwned, AreUnheld, Ring, RingValues, ring_of, AreRegisters, Arrival, Bound, Endpoint, Fine, Handle, Inboxes, Instance, IsAtDevice, IsInMemory, IsSafe, IsServed, Item, Life, Gone, Unborn, Local, LogEntry, Mediated, Memory, Names, NetMakes, NetStands, NetState, Network, Page, Receive, Registers, RingView, RingsStand, Rings, RxBell, Table, accepted, after_bell, arrivals, bell_over, belled, bound_by, completed, ear_with, frames_of, handles_after, held_in, inbox_by, is_to, length, map, received_frames, unread_count, unread_of, log_after, got_for, frame_of}
+use Rattle.ibos_net.proofs.Words.{ℕ, ◌≡◌, ◌≢◌, ◌≤◌, ◌+◌, ◌-◌, ◌++◌, List, [], Option, None, Alive, AreAtHand, AreOwned, AreUnheld, Ring, RingValues, ring_of, AreRegisters, Arrival, Endpoint, Inboxes, Instance, IsAtDevice, IsInMemory, IsSafe, Item, Life, Gone, Unborn, Local, LogEntry, Mediated, Memory, Names, NetMakes, NetStands, NetState, Network, Page, Receive, Registers, RxBell, accepted, after_bell, arrivals, bell_over, belled, bound_by, completed, ear_with, frames_of, handles_after, held_in, inbox_by, is_to, length, map, received_frames, unread_count, unread_of, got_for}
 use Rattle.ibos_kinds.specs.Bells.{bell, frames_in}
-use Rattle.ibos_model.specs.Journal.{kind_in, Nothing}
+use Rattle.ibos_model.specs.Journal.{kind_in}
 use Rattle.ibos_model.specs.Logs.{log_by}
 use Rattle.ibos_net.proofs.AtDevice.{at-device, from-device, others-of}
 use Rattle.ibos_net.proofs.PostMade.{others-like}
@@ -38,7 +38,7 @@ items-same local life remote n t safe s bytes counted counts =
     ∙ bell-front local (bound_by t.flows) (unread_of t.inboxes) heard (handles_after n.rings) count few
     ∙ ap (λ ws. bell local (bound_by t.flows) (unread_of t.inboxes) (handles_after n.rings) ws) (bytes ∙ sym s.rings.pending)
     ∙ bell-agrees local (λ p. ear_with (life p) (remote p) (n.flows p)) (bound_by t.flows) (unread_count n) (unread_of t.inboxes) s.ears
-        (λ p hears. sym (counts p) ∙ ap length (s.unread p (hearing (life p) (remote p) (n.flows p) hears))) (handles_after n.rings) n.pending
+    (λ p hears. sym (counts p) ∙ ap length (s.unread p (hearing (life p) (remote p) (n.flows p) hears))) (handles_after n.rings) n.pending
 
 -- the net half after the bell
 abbrev pub after : NetState → Mediated → Memory → Names → Inboxes → NetState

@@ -1,6 +1,6 @@
 -- Outcomes as they are filled, and logs that stay.
 use Rattle.std.proofs.Common.{refl, sym, ◌∙◌, ap, subst}
-use Rattle.ibos_net.proofs.Words.{◌≡◌, ◌∷◌, ◌++◌, List, [], Result, Ok, Err, OnErr, Act, Fine, Head, Item, Local, LogEntry, NetState, Outcome, Registers, Leaves, Serves, accepted, denied, Denied, Rule}
+use Rattle.ibos_net.proofs.Words.{◌≡◌, List, Result, Ok, Err, OnErr, Act, Head, Item, Local, LogEntry, NetState, Outcome, Registers, Leaves, Serves}
 
 outcome-is : (h h' : Head) (xs xs' : List Item) → h ≡ h' → xs ≡ xs' → (o : Outcome) → o ≡ record { head = h; items = xs } → o ≡ record { head = h'; items = xs' }
 outcome-is h h' xs xs' head items o is = is ∙ ap (λ x. record { head = x; items = xs }) head ∙ ap (λ ys. record { head = h'; items = ys }) items

@@ -1,10 +1,10 @@
 -- The own address in the registers is that of the frames, and so the device's verdict is the journal's.
-use Rattle.std.proofs.Common.{refl, sym, ◌∙◌, ap, subst, arith, cond}
-use Rattle.std.specs.Int.{byte_at, bytes_low_first}
+use Rattle.std.proofs.Common.{refl, ◌∙◌, ap, arith}
+use Rattle.std.specs.Int.{bytes_low_first}
 use Rattle.std.specs.Prelude.{◌||◌}
 use Rattle.ibos_nic.specs.Device.{is_for_us}
 use Rattle.ibos_model.specs.Rings.{verdict_at}
-use Rattle.ibos_net.proofs.Words.{ℕ, ◌≡◌, ◌+◌, ◌*◌, ◌^◌, ◌/◌, ◌%◌, ◌<◌, ◌≤◌, ◌==◌, ◌&&◌, ◌++◌, ◌∷◌, Bool, true, false, not, List, [], address_high, address_low, bytes_high_first, mac_byte, own_address, Registers, Ral0, Rah0, Rctl, Rdh, Rdt, Receive, Rings, RingsStand, Mediated, Memory, IsInMemory, IsBalanced, completed, register, Reg, Local, if◌then◌else◌, Verdict, Filtered, Missed, Heard, is_let_in, verdict_of, is_enabled, can_receive, IsTrue, RingValues}
+use Rattle.ibos_net.proofs.Words.{ℕ, ◌≡◌, ◌+◌, ◌*◌, ◌/◌, ◌%◌, ◌<◌, ◌≤◌, ◌==◌, ◌&&◌, ◌++◌, ◌∷◌, Bool, true, false, not, List, [], address_high, address_low, bytes_high_first, mac_byte, own_address, Registers, Ral0, Rah0, Rctl, Rdh, Rdt, Receive, Rings, RingsStand, Mediated, Memory, IsInMemory, register, Reg, Local, if◌then◌else◌, Filtered, Missed, Heard, is_let_in, verdict_of, is_enabled, can_receive, RingValues}
 use Rattle.std.proofs.lemmas.Bool.Decides.{nat_tests}
 
 low-byte : (a b c d : ℕ) → a < 256 → b < 256 → c < 256 → d < 256 → let x : ℕ = a + 256 * b + 65536 * c + 16777216 * d in (x % 256 ≡ a) × (x / 256 % 256 ≡ b) × (x / 65536 % 256 ≡ c) × (x / 16777216 % 256 ≡ d)

@@ -1,10 +1,7 @@
 -- A receive buffer is posted: no frame changes.
-use Rattle.std.proofs.Common.{refl, sym, ◌∙◌, ap, subst, arith, inl, inr}
+use Rattle.std.proofs.Common.{refl, sym, ◌∙◌, ap, subst, arith, inr}
 use Rattle.std.proofs.lemmas.List.{append-nil, map-append}
-use Rattle.ibos_net.proofs.Words.{ℕ, ◌≡◌, ◌≤◌, ◌<◌, ◌+◌, ◌*◌, ◌%◌, ◌++◌, ◌∷◌, List, [], None, Some, length, map, false, Handle, Held, Name, IsInMemory, IsAtDevice, Local, Mediated, Memory, Names, Network, Rings, RingsStand, RingView, RingValues, Registers, Receive, Transmit, Ring, Reg, Place, Rule, completed, received_frames, ring_changed, changed, Posts, IsPosted, descriptor_at, address_of, buffer_at, bytes_at, IsKept, IsPlaceIn, IsApart, IsInside, has_place, ring_base, ring_room, slot_address, descriptor_bytes, buffer_bytes, receive_buffer, receive_name, receive_rule, names_of, Keeps, SameRegisters, IsClaimedFor, held_in, frames_of, AreAtHand, Inboxes, Instance, Life, Endpoint, NetStands, NetMakes, NetState, AreRegisters, IsSafe, RxPost, posted, accepted, denied, answer, LogEntry, room_slots, slot_of}
-use Rattle.ibos_nic.specs.Descriptors.{rx_bytes}
-use Rattle.ibos_nic.specs.declared.descriptor.RxDesc.{RxDesc}
-use Rattle.ibos_mediate.specs.Relation.{posted_rx}
+use Rattle.ibos_net.proofs.Words.{ℕ, ◌≡◌, ◌≤◌, ◌+◌, ◌++◌, ◌∷◌, List, [], None, length, false, Handle, Held, Local, Mediated, Memory, Names, Network, Rings, RingsStand, RingView, RingValues, Registers, Receive, Ring, Place, completed, received_frames, ring_changed, changed, Posts, IsPosted, descriptor_at, address_of, buffer_at, IsKept, IsPlaceIn, has_place, ring_base, ring_room, descriptor_bytes, buffer_bytes, receive_buffer, receive_name, receive_rule, names_of, Keeps, SameRegisters, IsClaimedFor, held_in, frames_of, AreAtHand, Inboxes, Instance, Life, Endpoint, NetStands, NetMakes, NetState, AreRegisters, IsSafe, RxPost, posted, accepted, answer, LogEntry}
 use Rattle.ibos_net.proofs.AtDevice.{AreOthers, at-device, from-device, others-of}
 
 -- registers that no ring's change is seen in

@@ -1,6 +1,6 @@
 -- A write of a register: what is kept of the rings, and the registers that are part of none.
 use Rattle.std.proofs.Common.{refl, sym, ◌∙◌, ap, subst}
-use Rattle.ibos_net.proofs.Words.{ℕ, ◌≡◌, Bool, false, true, List, [], Option, None, Some, IfSome, IsInMemory, IsAtDevice, Local, Mediated, Memory, Network, Rings, RingsStand, RingView, Registers, Receive, Transmit, Ring, Part, Base, High, Length, HeadPart, Tail, Control, RingPart, Reg, Ctrl, Icr, Imc, Ims, Mpc, Rah0, Ral0, Status, Writes, HasWritten, bit_and, bit_or, bit_not, w32, completed, received_frames, ring_changed, changed, written_in, written_to, with_values, values_in, values_of, values_written, RingValues, part_of, reg_at, rule_in, write_rule, write_rule_of, after_write, after_writing, register, Life, Instance, Endpoint, NetStands, NetMakes, NetState, AreRegisters, IsSafe, RegWrite, accepted, answer, denied, LogEntry}
+use Rattle.ibos_net.proofs.Words.{ℕ, ◌≡◌, List, [], Option, None, Some, IfSome, IsInMemory, IsAtDevice, Local, Mediated, Memory, Network, Rings, RingsStand, RingView, Registers, Receive, Transmit, Ring, Part, Base, High, Length, HeadPart, Tail, Control, RingPart, Reg, Ctrl, Icr, Imc, Ims, Mpc, Rah0, Ral0, Status, Writes, HasWritten, bit_and, bit_or, bit_not, w32, completed, received_frames, ring_changed, changed, written_in, written_to, with_values, values_in, values_of, values_written, RingValues, part_of, reg_at, rule_in, write_rule, write_rule_of, after_writing, Life, Instance, Endpoint, NetStands, NetMakes, NetState, AreRegisters, IsSafe, RegWrite, accepted, answer, LogEntry}
 use Rattle.ibos_nic.specs.Rules.{of_reg, part_rule}
 use Rattle.ibos_model.specs.Rings.{of_reg as change_of}
 use Rattle.ibos_kinds.specs.declared.rule.Rule.TheVariants.{M1}
@@ -143,13 +143,3 @@ pub written-serves : (local : Local) (life : Instance → Life) (remote : Instan
     → write_rule (values_of t.med) offset value ≡ None → IfSome (reg_at offset) (λ reg. m' ≡ after_writing reg value t.med) → IfSome (reg_at offset) (λ reg. HasWritten reg value regs regs')
     → IsInMemory m' t.mem → IsAtDevice m' t.mem regs' → NetMakes local life remote n (RegWrite offset value) (accepted []) (with_med m' t) regs' log log
 written-serves local life remote n t m' regs regs' log offset value = written-reg local life remote n t m' regs regs' log offset value (reg_at offset) refl
-
-pub denied-write : (local : Local) (life : Instance → Life) (remote : Instance → Endpoint) (n : Network) (t : NetState) (regs : Registers) (log : List LogEntry) (offset value : ℕ) (rule : Rule)
-    → NetStands life remote n t → AreRegisters local n regs → write_rule (values_of t.med) offset value ≡ Some rule
-    → NetMakes local life remote n (RegWrite offset value) (denied rule) t regs log log
-denied-write local life remote n t regs log offset value rule s each is = record {
-  outcome = sym (ap answer (rule-same n.rings n.pending t.med t.mem s.rings offset value ∙ is));
-  stands = record { rings = s.rings; ears = s.ears; unread = s.unread; closed = s.closed; areas = s.areas };
-  registers = each;
-  log = refl;
-}

@@ -1,7 +1,7 @@
 -- A receive bell takes a buffer back for each frame that was heard.
 use Rattle.std.proofs.Common.{refl, sym, ◌∙◌, ap, subst, arith}
 use Rattle.std.proofs.lemmas.List.{drop-map, take-map}
-use Rattle.ibos_net.proofs.Words.{ℕ, zero, suc, ◌≡◌, ◌≢◌, ◌≤◌, ◌<◌, ◌+◌, ◌-◌, ◌++◌, ◌∷◌, List, [], Option, None, Some, Arrival, Handle, Held, Name, IsInMemory, Mediated, Memory, Receive, RingValues, RingView, Rings, RingsStand, after_bell, arrival_at, arrivals, belled, belled_by, completed, drop, take, handle_after, handle_of, handles_after, held_for, length, map, names_of, no_buffer, queue, range_with_len, received_frames, slice_index_or, taken_back, turns_after, with_turn}
+use Rattle.ibos_net.proofs.Words.{ℕ, zero, suc, ◌≡◌, ◌≤◌, ◌+◌, ◌-◌, ◌∷◌, List, [], Arrival, Handle, Held, Mediated, Memory, Receive, RingValues, RingView, Rings, RingsStand, after_bell, arrival_at, arrivals, belled, belled_by, completed, drop, take, handle_after, handle_of, handles_after, held_for, length, map, names_of, no_buffer, range_with_len, received_frames, slice_index_or, taken_back, turns_after, with_turn}
 use Rattle.ibos_mediate.specs.Frames.{take_back}
 use Rattle.ibos_net.proofs.BellItems.{front-read, map-twice}
 
@@ -23,7 +23,7 @@ taken-parts zero values held transmit turns few = record { values = ap (λ n. re
 taken-parts (suc count) values [] transmit turns few = absurd (omega (arith, few))
 taken-parts (suc count) values (h ∷ hs) transmit turns few =
     let once : taken_back Receive (mediated values (h ∷ hs) transmit turns) ≡ mediated (record values { taken = values.taken + 1 }) hs transmit (with_turn turns h.name.index) =
-        ap (λ (k : Held). mediated (record values { taken = values.taken + 1 }) hs transmit (with_turn turns k.name.index)) (first-held values h hs) in
+    ap (λ (k : Held). mediated (record values { taken = values.taken + 1 }) hs transmit (with_turn turns k.name.index)) (first-held values h hs) in
     let rest = taken-parts count (record values { taken = values.taken + 1 }) hs transmit (with_turn turns h.name.index) (omega (arith, few)) in
     let P : Mediated → Type 0 = λ m. IsTakenBack (mediated values (h ∷ hs) transmit turns) (take_back Receive count m) (suc count) in
     subst P (sym once) (record { values = rest.values ∙ ap (λ n. record values { taken = n }) (omega arith); held = rest.held; turns = rest.turns })

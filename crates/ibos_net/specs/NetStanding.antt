@@ -144,12 +144,13 @@ pub record NetMakes (local : Local) (life : Instance → Life) (remote : Instanc
   pub registers : AreRegisters local (network_by (is_ok o.head) act o (got_for o l') n) regs
   pub log : l' ≡ log_after o (frame_of act) (got_for o l') [] l
 
--- an act served: whatever the net half and the registers stand for, they then stand for what the act
--- makes of it
+-- an act is served: whatever the net half and the registers stand for, they then stand for what the
+-- act makes of it
 abbrev pub Serves : Local → Act → Outcome → NetState → NetState → Registers → Registers
     → List LogEntry → List LogEntry → Type 0
-Serves local act o t t' regs regs' log log' = (life : Instance → Life) (remote : Instance → Endpoint)
-    (n : Network) → NetStands life remote n t → AreRegisters local n regs → IsWithLife life act
+Serves local act o t t' regs regs' log log' = (life : Instance → Life)
+    (remote : Instance → Endpoint) (n : Network) → NetStands life remote n t
+    → AreRegisters local n regs → IsWithLife life act
     → NetMakes local life remote n act o t' regs' log log'
 
 -- the same of an act that ran out of memory

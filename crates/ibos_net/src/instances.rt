@@ -1,5 +1,5 @@
 // Instances start and end.
-ghost use Rattle.std.specs.Prelude.{◌≡◌, ◌≢◌, ◌+◌, ◌<◌, ◌≤◌, [], None, length, OnOk, slice_index_or};
+ghost use Rattle.std.specs.Prelude.{◌≡◌, ◌≢◌, ◌+◌, ◌<◌, [], None, length, OnOk, slice_index_or};
 ghost use Rattle.ibos_kinds.specs.declared.names.Endpoint.{Endpoint as Far};
 ghost use Rattle.ibos_kinds.specs.declared.names.Instance.{Instance as Page};
 ghost use Rattle.ibos_kinds.specs.Limits.{IsNamed};

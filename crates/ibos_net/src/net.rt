@@ -81,8 +81,8 @@ impl Net {
         self.parts.end(who);
     }
 
-    /// Makes an act of the net half. After want of memory the log is as it was, or has the one entry
-    /// more that the act brings.
+    /// Makes an act of the net half. After want of memory the log is as it was, or has the one
+    /// entry more that the act brings.
     pub fn serve<N: Nic>(
         &mut self,
         alloc: Global,
@@ -161,7 +161,8 @@ impl Net {
     }
 }
 
-/// Of lives and other ends the relation asks only which instances live, and where their origins are.
+/// Of lives and other ends the relation asks only which instances live, and where the origins of
+/// these are.
 pub fn lives_may_change()
     ensures { (life life' : Instance → Life) (remote remote' : Instance → Endpoint) (n : Network)
         (t : NetState) → ((p : Instance) → life p ≡ Alive

@@ -1,4 +1,4 @@
-use Rattle.std.proofs.Common.{◌≡◌, [], None, List, sym, ◌∙◌, ap}
+use Rattle.std.proofs.Common.{List, sym, ◌∙◌, ap}
 use Rattle.ibos_kinds.specs.declared.outcome.Head.TheVariants.{Denied}
 use Rattle.ibos_kinds.specs.declared.outcome.Item.{Item}
 use Rattle.ibos_page.specs.Tabs.{admitted_by}
@@ -24,9 +24,9 @@ returns-in_err-serve-clause-loses g c =
     let free = free_if (admission_of c.args.pages.now.tabs c.args.act.now) c.in_default.field-0 (ap (λ (p : Parts). admitted_by (admission_of p.tabs c.args.act.now)) (sym c.pages.view_is) ∙ sym c.admit.ensures ∙ c.in_default.is) in
     let local = c.local.ensures ∙ ap (λ (p : Parts). p.hosts.local) c.pages.view_is in
     let lost : (J : Journal) → HalvesStand J c.args.pages.now c.args.net.now → Agrees c.args.pages.now.hosts J (g.N.Nic.regs c.args.nic.now) (g.N.Nic.log c.args.nic.now)
-        → Loses (out c.args.pages.now.hosts J c.args.act.now) c.args.act.now (g.N.Nic.log c.args.nic.now) (g.N.Nic.log c.serve.new.nic)
-        = λ J stand agrees. serve_loses J c.args.pages.now c.args.net.now c.args.act.now (g.N.Nic.regs c.args.nic.now) (g.N.Nic.log c.args.nic.now) (g.N.Nic.log c.serve.new.nic)
-        c.local.result local c.requires.net free stand agrees c.in_err-serve.ensures.loses in
+    → Loses (out c.args.pages.now.hosts J c.args.act.now) c.args.act.now (g.N.Nic.log c.args.nic.now) (g.N.Nic.log c.serve.new.nic)
+    = λ J stand agrees. serve_loses J c.args.pages.now c.args.net.now c.args.act.now (g.N.Nic.regs c.args.nic.now) (g.N.Nic.log c.args.nic.now) (g.N.Nic.log c.serve.new.nic)
+    c.local.result local c.requires.net free stand agrees c.in_err-serve.ensures.loses in
     on_err c.from_residual.result _ lost
 
 pub returns-clause-goes : goal.returns-clause-goes

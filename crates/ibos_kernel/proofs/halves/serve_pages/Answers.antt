@@ -1,77 +1,61 @@
-use Rattle.std.proofs.Common.{◌≡◌, ◌+◌, List, [], refl, sym, subst, ◌∙◌, ap}
-use Rattle.ibos_nic.specs.declared.log.LogEntry.{LogEntry}
-use Rattle.ibos_origin.specs.Hosts.{HostTable}
-use Rattle.ibos_origin.specs.Tables.{HasPlainNames}
-use Rattle.ibos_model.specs.Journal.{Journal}
+use Rattle.std.proofs.Common.{◌+◌, [], refl, ◌∙◌, ap}
 use Rattle.ibos_model.specs.Network.{network}
 use Rattle.ibos_model.specs.Tabs.{life_of}
 use Rattle.ibos_kernel.specs.Tables.{Parts}
 use Rattle.ibos_kernel.specs.Standing.{remote_of}
 use Rattle.ibos_kernel.specs.Halves.{begun, opened_in, with_ended}
-use Rattle.ibos_kernel.proofs.PageActs.{counted_after, lives_if, named_if, net_goes, new_if, room_if, turn_made}
-use Rattle.ibos_kernel.proofs.Turned.{AreAtOrigins}
+use Rattle.ibos_kernel.proofs.PageActs.{counted_after, lives_if, named_if, net_goes, new_if, origins_of, room_if, turn_made}
 use Rattle.ibos_kernel.proofs.halves.serve_pages.Goals as goal
 
 pub end-requires : goal.end-requires
 end-requires c =
     let H = c.args.pages.now.hosts in
-    let P : HostTable → Type 0 = HasPlainNames in
-    let plain = subst P (ap (λ (p : Parts). p.hosts) c.pages.view_is) c.sound.ensures.plain in
-    let origins : AreAtOrigins H = λ text page allows. c.endpoints_follow_origins.ensures.endpoint H text page plain allows in
+    let origins = origins_of H c.pages.inside.hosts (ap (λ (p : Parts). p.hosts) c.pages.view_is) c.sound.ensures.plain c.endpoints_follow_origins.ensures.endpoint in
     let J = c.requires.together.0 in
     let stand = c.requires.together.1 in
     let turn = turn_made J c.args.pages.now c.serve.new.self c.args.act.now c.serve.new.out [] c.ended_in.result (opened_in c.serve.new.out.items) origins c.requires.pages stand.pages_stand c.requires.fits c.requires.counted.few
-        c.in_ok-serve.ensures.serves c.ended_in.ensures refl in
+    c.in_ok-serve.ensures.serves c.ended_in.ensures refl in
     record { together = (life_of H J, remote_of H J, network J, stand.net_stands, turn.ends) }
 
 pub begin-requires-clause-named : goal.begin-requires-clause-named
 begin-requires-clause-named c =
     let H = c.args.pages.now.hosts in
-    let P : HostTable → Type 0 = HasPlainNames in
-    let plain = subst P (ap (λ (p : Parts). p.hosts) c.pages.view_is) c.sound.ensures.plain in
-    let origins : AreAtOrigins H = λ text page allows. c.endpoints_follow_origins.ensures.endpoint H text page plain allows in
+    let origins = origins_of H c.pages.inside.hosts (ap (λ (p : Parts). p.hosts) c.pages.view_is) c.sound.ensures.plain c.endpoints_follow_origins.ensures.endpoint in
     let J = c.requires.together.0 in
     let stand = c.requires.together.1 in
     let turn = turn_made J c.args.pages.now c.serve.new.self c.args.act.now c.serve.new.out [] c.ended_in.result c.opened_in.result origins c.requires.pages stand.pages_stand c.requires.fits c.requires.counted.few
-        c.in_ok-serve.ensures.serves c.ended_in.ensures c.opened_in.ensures in
+    c.in_ok-serve.ensures.serves c.ended_in.ensures c.opened_in.ensures in
     named_if _ _ _ _ _ _ c.opened_in.result turn
 
 pub begin-requires-clause-lives : goal.begin-requires-clause-lives
 begin-requires-clause-lives c =
     let H = c.args.pages.now.hosts in
-    let P : HostTable → Type 0 = HasPlainNames in
-    let plain = subst P (ap (λ (p : Parts). p.hosts) c.pages.view_is) c.sound.ensures.plain in
-    let origins : AreAtOrigins H = λ text page allows. c.endpoints_follow_origins.ensures.endpoint H text page plain allows in
+    let origins = origins_of H c.pages.inside.hosts (ap (λ (p : Parts). p.hosts) c.pages.view_is) c.sound.ensures.plain c.endpoints_follow_origins.ensures.endpoint in
     let J = c.requires.together.0 in
     let stand = c.requires.together.1 in
     let turn = turn_made J c.args.pages.now c.serve.new.self c.args.act.now c.serve.new.out [] c.ended_in.result c.opened_in.result origins c.requires.pages stand.pages_stand c.requires.fits c.requires.counted.few
-        c.in_ok-serve.ensures.serves c.ended_in.ensures c.opened_in.ensures in
+    c.in_ok-serve.ensures.serves c.ended_in.ensures c.opened_in.ensures in
     let seen = ap (λ (p : Parts). p.tabs) c.pages-2.view_is in
     lives_if _ _ _ _ c.serve.new.self.tabs c.pages-2.inside.tabs _ c.opened_in.result seen turn
 
 pub begin-requires-clause-room : goal.begin-requires-clause-room
 begin-requires-clause-room c =
     let H = c.args.pages.now.hosts in
-    let P : HostTable → Type 0 = HasPlainNames in
-    let plain = subst P (ap (λ (p : Parts). p.hosts) c.pages.view_is) c.sound.ensures.plain in
-    let origins : AreAtOrigins H = λ text page allows. c.endpoints_follow_origins.ensures.endpoint H text page plain allows in
+    let origins = origins_of H c.pages.inside.hosts (ap (λ (p : Parts). p.hosts) c.pages.view_is) c.sound.ensures.plain c.endpoints_follow_origins.ensures.endpoint in
     let J = c.requires.together.0 in
     let stand = c.requires.together.1 in
     let turn = turn_made J c.args.pages.now c.serve.new.self c.args.act.now c.serve.new.out [] c.ended_in.result c.opened_in.result origins c.requires.pages stand.pages_stand c.requires.fits c.requires.counted.few
-        c.in_ok-serve.ensures.serves c.ended_in.ensures c.opened_in.ensures in
+    c.in_ok-serve.ensures.serves c.ended_in.ensures c.opened_in.ensures in
     room_if _ _ _ c.args.pages.now.tabs _ _ c.opened_in.result _ (c.end.ensures.areas ∙ c.requires.counted.areas) turn
 
 pub begin-requires-clause-together : goal.begin-requires-clause-together
 begin-requires-clause-together c =
     let H = c.args.pages.now.hosts in
-    let P : HostTable → Type 0 = HasPlainNames in
-    let plain = subst P (ap (λ (p : Parts). p.hosts) c.pages.view_is) c.sound.ensures.plain in
-    let origins : AreAtOrigins H = λ text page allows. c.endpoints_follow_origins.ensures.endpoint H text page plain allows in
+    let origins = origins_of H c.pages.inside.hosts (ap (λ (p : Parts). p.hosts) c.pages.view_is) c.sound.ensures.plain c.endpoints_follow_origins.ensures.endpoint in
     let J = c.requires.together.0 in
     let stand = c.requires.together.1 in
     let turn = turn_made J c.args.pages.now c.serve.new.self c.args.act.now c.serve.new.out [] c.ended_in.result c.opened_in.result origins c.requires.pages stand.pages_stand c.requires.fits c.requires.counted.few
-        c.in_ok-serve.ensures.serves c.ended_in.ensures c.opened_in.ensures in
-    (
+    c.in_ok-serve.ensures.serves c.ended_in.ensures c.opened_in.ensures in (
       with_ended c.ended_in.result (life_of H J),
       remote_of H J,
       network J,
@@ -82,11 +66,9 @@ begin-requires-clause-together c =
 pub returns-clause-net : goal.returns-clause-net
 returns-clause-net c = λ J log stand.
     let H = c.args.pages.now.hosts in
-    let P : HostTable → Type 0 = HasPlainNames in
-    let plain = subst P (ap (λ (p : Parts). p.hosts) c.pages.view_is) c.sound.ensures.plain in
-    let origins : AreAtOrigins H = λ text page allows. c.endpoints_follow_origins.ensures.endpoint H text page plain allows in
+    let origins = origins_of H c.pages.inside.hosts (ap (λ (p : Parts). p.hosts) c.pages.view_is) c.sound.ensures.plain c.endpoints_follow_origins.ensures.endpoint in
     let turn = turn_made J c.args.pages.now c.serve.new.self c.args.act.now c.serve.new.out log c.ended_in.result c.opened_in.result origins c.requires.pages stand.pages_stand c.requires.fits c.requires.counted.few
-        c.in_ok-serve.ensures.serves c.ended_in.ensures c.opened_in.ensures in
+    c.in_ok-serve.ensures.serves c.ended_in.ensures c.opened_in.ensures in
     let seen = ap (λ (p : Parts). p.tabs) c.pages-2.view_is in
     net_goes c.lives_may_change.ensures J H c.args.act.now c.serve.new.out log c.args.pages.now.tabs c.serve.new.self.tabs c.pages-2.inside.tabs c.ended_in.result c.opened_in.result c.begin.new.net c.requires.pages seen turn
     (c.in_ok-begin.ensures.stands (with_ended c.ended_in.result (life_of H J)) (remote_of H J) (network J) (c.end.ensures.stands (life_of H J) (remote_of H J) (network J) stand.net_stands)
@@ -95,11 +77,9 @@ returns-clause-net c = λ J log stand.
 pub returns-clause-counted : goal.returns-clause-counted
 returns-clause-counted c =
     let H = c.args.pages.now.hosts in
-    let P : HostTable → Type 0 = HasPlainNames in
-    let plain = subst P (ap (λ (p : Parts). p.hosts) c.pages.view_is) c.sound.ensures.plain in
-    let origins : AreAtOrigins H = λ text page allows. c.endpoints_follow_origins.ensures.endpoint H text page plain allows in
+    let origins = origins_of H c.pages.inside.hosts (ap (λ (p : Parts). p.hosts) c.pages.view_is) c.sound.ensures.plain c.endpoints_follow_origins.ensures.endpoint in
     let J = c.requires.together.0 in
     let stand = c.requires.together.1 in
     let turn = turn_made J c.args.pages.now c.serve.new.self c.args.act.now c.serve.new.out [] c.ended_in.result c.opened_in.result origins c.requires.pages stand.pages_stand c.requires.fits c.requires.counted.few
-        c.in_ok-serve.ensures.serves c.ended_in.ensures c.opened_in.ensures in
+    c.in_ok-serve.ensures.serves c.ended_in.ensures c.opened_in.ensures in
     counted_after _ _ _ _ _ c.ended_in.result c.opened_in.result c.args.net.now c.begin.new.net c.requires.counted turn (c.in_ok-begin.ensures.areas ∙ ap (λ n. n + begun c.opened_in.result) c.end.ensures.areas)

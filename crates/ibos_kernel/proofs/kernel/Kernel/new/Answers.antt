@@ -1,7 +1,4 @@
-use Rattle.std.proofs.Common.{refl, sym, ◌∙◌, ap}
-use Rattle.ibos_model.specs.Network.{no_network}
-use Rattle.ibos_net.specs.NetStanding.{AreRegisters}
-use Rattle.ibos_kernel.specs.Tables.{Parts}
+use Rattle.std.proofs.Common.{◌∙◌}
 use Rattle.ibos_kernel.proofs.ActsStand.{new_holds}
 use Rattle.ibos_kernel.proofs.KernelSteps.{new_agrees, new_counted, new_net, new_sound, new_stands}
 use Rattle.ibos_kernel.proofs.kernel.Kernel.new.Goals as goal

@@ -1,5 +1,5 @@
-use Rattle.std.proofs.Common.{◌≡◌, sym, ◌∙◌, ap}
-use Rattle.ibos_net.proofs.Words.{Act, Bind, Done, List, RegRead, RegWrite, RxBell, RxPost, Unbind, WireIn, ℕ}
+use Rattle.std.proofs.Common.{sym, ◌∙◌, ap}
+use Rattle.ibos_net.proofs.Words.{Bind, Done, List, RegRead, RegWrite, RxBell, RxPost, Unbind, WireIn, ℕ}
 use Rattle.ibos_net.proofs.Outcomes.{left-at, on-err, served-at}
 use Rattle.ibos_net.proofs.net.Net.serve.Goals as goal
 

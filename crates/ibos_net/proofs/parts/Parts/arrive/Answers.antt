@@ -1,7 +1,7 @@
 use Rattle.std.proofs.Common.{refl, sym, subst, ap, ◌∙◌}
 use Rattle.ibos_net.proofs.Words.{Fine, Heard, IsHeard, IsSafe, IsAtDevice, Memory, NetStands, NetState, Ok, VerdictIs, WireIn, [], ◌∷◌, ◌++◌, ◌≡◌, held_in}
 use Rattle.ibos_net.proofs.Outcomes.{on-err, outcome-of, served-now}
-use Rattle.ibos_net.proofs.Arrivals.{HeardLaws, areas-arrived, arrive-leaves, arrive-serves, arrived-safe, with_mem}
+use Rattle.ibos_net.proofs.Arrivals.{HeardLaws, arrive-leaves, arrive-serves, arrived-safe, with_mem}
 use Rattle.ibos_net.proofs.PostMade.{frames-stay}
 use Rattle.ibos_net.proofs.parts.Parts.arrive.Goals as goal
 

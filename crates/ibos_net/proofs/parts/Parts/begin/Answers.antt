@@ -1,5 +1,5 @@
 use Rattle.std.proofs.Common.{refl, sym, subst, ap, ◌∙◌, arith}
-use Rattle.ibos_net.proofs.Words.{AreAtHand, AreFreshIn, Inboxes, Instance, IsSafe, Memory, Names, NetStands, NetState, Receive, [], ◌≡◌, ◌<◌, ◌≤◌, areas_of, held_in, length}
+use Rattle.ibos_net.proofs.Words.{AreFreshIn, Inboxes, IsSafe, Memory, Names, NetStands, NetState, Receive, [], ◌≡◌, ◌<◌, ◌≤◌, areas_of, held_in, length}
 use Rattle.ibos_net.proofs.AreasGrown.{IsGrown, begun-beside, begun-stands, grown-hands, grown-safe, grown-whole, hands-alone, has-inbox, regs-for, safe-from}
 use Rattle.ibos_net.proofs.parts.Parts.begin.Goals as goal
 
@@ -79,7 +79,7 @@ returns-in_err-begin-2-clause-safe c =
     let hands = c.hands_are_kept.ensures.grown in
     let same : length t.mem ≡ length t.names = subst (λ (x : NetState). length x.mem ≡ length x.names) (sym c.self.view_is) (sym c.requires.names) in
     let fresh : AreFreshIn mem names c.areas-areas.result = subst (λ k. AreFreshIn mem names k) (sym c.areas-areas.ensures.areas)
-        (c.fresh_areas.ensures.memory t.names names t.mem mem (omega (arith, some, same)) same c.in_ok-grow_instance-2.ensures.areas c.in_ok-grow_instance.ensures.areas c.in_ok-grow_instance-2.ensures.home c.grow_instance.ensures.lent) in
+    (c.fresh_areas.ensures.memory t.names names t.mem mem (omega (arith, some, same)) same c.in_ok-grow_instance-2.ensures.areas c.in_ok-grow_instance.ensures.areas c.in_ok-grow_instance-2.ensures.home c.grow_instance.ensures.lent) in
     let begun = c.in_ok-begin.ensures in
     let t' : NetState = record { med = t.med; mem = mem; names = c.begin.new.pool; flows = c.begin-2.new.self; inboxes = c.begin.new.self } in
     safe-from t' (regs-for t.med t.mem) (c.begin.ensures.whole t.med mem (regs-for t.med t.mem) [] (grown-whole growth t mem names safe grown))
@@ -110,7 +110,7 @@ returns-clause-safe c =
     let hands = c.hands_are_kept.ensures.grown in
     let same : length t.mem ≡ length t.names = subst (λ (x : NetState). length x.mem ≡ length x.names) (sym c.self.view_is) (sym c.requires.names) in
     let fresh : AreFreshIn mem names c.areas-areas.result = subst (λ k. AreFreshIn mem names k) (sym c.areas-areas.ensures.areas)
-        (c.fresh_areas.ensures.memory t.names names t.mem mem (omega (arith, some, same)) same c.in_ok-grow_instance-2.ensures.areas c.in_ok-grow_instance.ensures.areas c.in_ok-grow_instance-2.ensures.home c.grow_instance.ensures.lent) in
+    (c.fresh_areas.ensures.memory t.names names t.mem mem (omega (arith, some, same)) same c.in_ok-grow_instance-2.ensures.areas c.in_ok-grow_instance.ensures.areas c.in_ok-grow_instance-2.ensures.home c.grow_instance.ensures.lent) in
     let begun = c.in_ok-begin.ensures in
     let t' : NetState = record { med = t.med; mem = mem; names = c.begin.new.pool; flows = c.begin-2.new.self; inboxes = c.begin.new.self } in
     safe-from t' (regs-for t.med t.mem) (c.begin.ensures.whole t.med mem (regs-for t.med t.mem) [] (grown-whole growth t mem names safe grown))

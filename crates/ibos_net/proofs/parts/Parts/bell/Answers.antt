@@ -1,5 +1,5 @@
 use Rattle.std.proofs.Common.{refl, sym, subst, ap, ◌∙◌}
-use Rattle.ibos_net.proofs.Words.{Arrival, Fine, IsSafe, Item, List, Mediated, NetState, Receive, RxBell, [], ◌++◌, ◌≡◌, arrivals, bell_over, bound_by, held_in, map, received_frames, unread_of}
+use Rattle.ibos_net.proofs.Words.{Arrival, Fine, IsSafe, Item, List, NetState, Receive, RxBell, [], ◌++◌, ◌≡◌, arrivals, bell_over, bound_by, held_in, map, received_frames, unread_of}
 use Rattle.ibos_net.proofs.AreasGrown.{hands-alone}
 use Rattle.ibos_net.proofs.Outcomes.{outcome-of, served-now}
 use Rattle.ibos_net.proofs.BellServed.{after, bell-posts, bell-serves, belled-safe, items-same}
@@ -44,5 +44,5 @@ returns-clause-serves c = λ regs log.
     let none : received_frames new.mem new.med.receive ≡ [] = sym (bytes new.mem new.med) ∙ ap (map (λ (a : Arrival). a.bytes)) done.arrivals in
     served-now c.args.local.now RxBell _ _ t _ (after t new.med new.mem new.pool new.inboxes) _ regs regs log log (outcome-of new.out Fine items (e.head ∙ c.requires.head) told) c.self.view_is refl
     (λ life remote n s each lives. bell-serves c.args.local.now life remote n t new.med new.mem new.pool new.inboxes regs log items safe s each
-        (items-same c.args.local.now life remote n t safe s (bytes t.mem t.med) (c.frames_are_counted.ensures.received t.mem t.med.receive) (c.inboxes_keep_their_frames.ensures.count t.mem t.inboxes))
-        done.frames done.bell e.transmit (e.done Receive) none (λ q. (e.open q).1) e.memory e.device e.served.pool_areas e.served.areas)
+    (items-same c.args.local.now life remote n t safe s (bytes t.mem t.med) (c.frames_are_counted.ensures.received t.mem t.med.receive) (c.inboxes_keep_their_frames.ensures.count t.mem t.inboxes))
+    done.frames done.bell e.transmit (e.done Receive) none (λ q. (e.open q).1) e.memory e.device e.served.pool_areas e.served.areas)

@@ -1,4 +1,4 @@
-use Rattle.std.proofs.Common.{refl, sym, subst, ap, ◌∙◌, arith}
+use Rattle.std.proofs.Common.{sym, ◌∙◌, arith}
 use Rattle.ibos_net.proofs.Words.{IsInMemory, NetState, ◌≡◌, ◌≤◌, ◌<◌, length, max_areas}
 use Rattle.ibos_net.proofs.Beginning.{empty-safe, empty-stands}
 use Rattle.ibos_net.proofs.parts.Parts.empty.Goals as goal

@@ -1,5 +1,5 @@
 use Rattle.std.proofs.Common.{sym, subst}
-use Rattle.ibos_net.proofs.Words.{IsSafe, NetState}
+use Rattle.ibos_net.proofs.Words.{IsSafe}
 use Rattle.ibos_net.proofs.parts.Parts.frame.Goals as goal
 
 pub frame-requires-clause-hands : goal.frame-requires-clause-hands

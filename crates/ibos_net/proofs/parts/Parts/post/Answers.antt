@@ -1,5 +1,5 @@
 use Rattle.std.proofs.Common.{refl, sym, subst, ap}
-use Rattle.ibos_net.proofs.Words.{Fine, Held, IsSafe, Keeps, Mediated, NetState, Receive, RxPost, SameRegisters, IsClaimedFor, [], held_in, receive_buffer, changed, Posts}
+use Rattle.ibos_net.proofs.Words.{Fine, Held, IsSafe, Keeps, Mediated, NetState, Receive, RxPost, SameRegisters, IsClaimedFor, [], held_in, receive_buffer}
 use Rattle.ibos_net.proofs.Outcomes.{outcome-of, served}
 use Rattle.ibos_net.proofs.PostMade.{buffer-stays, frames-stay, post-made, posted-safe, posted-serves}
 use Rattle.ibos_net.proofs.parts.Parts.post.Goals as goal
@@ -18,7 +18,7 @@ returns-clause-serves c = λ local regs log.
     let after = ap (λ (m : Mediated). record { med = m; mem = c.rx_post.new.mem; names = c.rx_post.new.pool; flows = t.flows; inboxes = t.inboxes }) (sym done.posted) in
     let received = c.posts_add_a_frame.ensures.receive_received t.med t.mem c.rx_post.new.mem h safe.memory keeps.memory done.written in
     let stay = frames-stay c.inboxes_keep_their_frames.ensures.hands t.names t.mem c.rx_post.new.mem t.inboxes safe.hands
-        (λ q kept. buffer-stays c.parts_are_apart.ensures.behind t.mem c.rx_post.new.mem t.med.receive.values.posted _ h.place q (c.descriptors_are_their_bytes.ensures.rx_length _) done.written kept) in
+    (λ q kept. buffer-stays c.parts_are_apart.ensures.behind t.mem c.rx_post.new.mem t.med.receive.values.posted _ h.place q (c.descriptors_are_their_bytes.ensures.rx_length _) done.written kept) in
     served local (RxPost c.args.slot c.args.handle) _ _ t _ (post-made t h c.rx_post.new.mem c.rx_post.new.pool) _ regs regs log _ (outcome-of c.args.out.now Fine [] c.requires.head c.requires.items) c.self.view_is after refl
     (λ life remote n s each lives. posted-serves local life remote n t c.rx_post.new.mem c.rx_post.new.pool regs log c.args.slot c.args.handle c.frames_are_counted.ensures.received received stay safe s each done.ok keeps done.claimed done.written.areas)
 

@@ -1,5 +1,5 @@
 use Rattle.std.proofs.Common.{refl, sym, subst}
-use Rattle.ibos_net.proofs.Words.{Fine, IsSafe, IsAtDevice, NetState, RegWrite, []}
+use Rattle.ibos_net.proofs.Words.{Fine, IsSafe, NetState, RegWrite, []}
 use Rattle.ibos_net.proofs.Outcomes.{outcome-of, served}
 use Rattle.ibos_net.proofs.RegisterWritten.{with_med, written-serves}
 use Rattle.ibos_net.proofs.parts.Parts.write.Goals as goal
