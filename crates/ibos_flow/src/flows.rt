@@ -37,6 +37,13 @@ impl Flows {
         }
     }
 
+    /// The other end of all flows.
+    pub(crate) fn remote(&self) -> Endpoint
+        ensures { result ≡ self.now.remote }
+    {
+        self.remote
+    }
+
     /// Binds one flow more.
     pub(crate) fn bind(&mut self, proto: Proto) -> Result<u8, Rule>
         ensures answer { result ≡ bind_answer self.old }

@@ -103,6 +103,17 @@ impl FlowTable {
         }
     }
 
+    /// The other end of an instance's flows.
+    pub fn remote(&self, who: Instance) -> Endpoint
+        requires { bound_by self.now who ≢ None }
+        ensures { IfSome (bound_by self.now who) (λ bound. result ≡ bound.remote) }
+    {
+        match &self.places[place_of(who)] {
+            Some(flows) => flows.remote(),
+            None => unreachable!(),
+        }
+    }
+
     /// The flow that a frame with this heading belongs to. F12 exactly where no open flow has its
     /// port and protocol; F13 where one has, and its instance's other end is another.
     pub fn find(&self, heading: &Heading) -> Result<(Instance, u8), Rule>
