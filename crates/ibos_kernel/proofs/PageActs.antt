@@ -1,5 +1,5 @@
 -- After an act of the pages' half the net half stands for the journal with its entry.
-use Rattle.std.proofs.Common.{◌≡◌, ℕ, ◌+◌, ◌<◌, ◌≤◌, false, List, [], ◌∷◌, Option, Some, None, Ok, IfSome, refl, sym, ◌∙◌, ap, subst, arith}
+use Rattle.std.proofs.Common.{◌≡◌, ◌≢◌, ℕ, ◌+◌, ◌<◌, ◌≤◌, false, List, [], ◌∷◌, Option, Some, None, Ok, IfSome, refl, sym, ◌∙◌, ap, subst, arith}
 use Rattle.ibos_kinds.specs.declared.act.Act.{Act}
 use Rattle.ibos_kinds.specs.declared.act.Act.TheVariants.{Start, Switch, Close, Press, Click, Look, Go, Draw, CookieSet, CookieGet}
 use Rattle.ibos_kinds.specs.declared.names.Endpoint.{Endpoint}
@@ -12,7 +12,8 @@ use Rattle.ibos_origin.specs.Endpoints.{origin_endpoint}
 use Rattle.ibos_origin.specs.Hosts.{HostTable}
 use Rattle.ibos_origin.specs.Pages.{Page, allowed, endpoint_of}
 use Rattle.ibos_origin.specs.Tables.{HasPlainNames}
-use Rattle.ibos_page.specs.Tabs.{TabTable, live_at, seat_at}
+use Rattle.ibos_page.specs.Seats.{Seat}
+use Rattle.ibos_page.specs.Tabs.{TabTable, live_at, live_in, seat_at}
 use Rattle.ibos_model.specs.Focus.{focus_of}
 use Rattle.ibos_model.specs.Journal.{Journal, frame_of, is_ok}
 use Rattle.ibos_model.specs.Laws.{AreSetsPut, AreUnbornBare}
@@ -20,10 +21,10 @@ use Rattle.ibos_model.specs.Logs.{got_for, log_after, log_by}
 use Rattle.ibos_model.specs.Network.{Network, network}
 use Rattle.ibos_model.specs.Runs.{IsRun}
 use Rattle.ibos_model.specs.Tabs.{Alive, Life, Tabs, changes, life_of, tabs}
-use Rattle.ibos_net.specs.NetStanding.{AreRegisters, NetState, NetStands, areas_of, is_net}
+use Rattle.ibos_net.specs.NetStanding.{AreRegisters, NetStands, NetState, areas_of, is_net, with_life, with_remote}
 use Rattle.ibos_kernel.specs.Tables.{Parts, Serves, started, tabs_after}
 use Rattle.ibos_kernel.specs.Standing.{Agrees, IsCounted, NetStandsFor, PartsStand, entry, remote_of}
-use Rattle.ibos_kernel.specs.Halves.{GoOn, HalvesStand, IsNew, begun, ended_in, opened_in, remotes_with, with_begun, with_ended}
+use Rattle.ibos_kernel.specs.Halves.{GoOn, HalvesStand, IsNew, begun, ended_in, endpoint_with, opened_in, remotes_with, with_begun, with_ended}
 use Rattle.ibos_kernel.proofs.Outcomes.{outcome-seen, outcome_seen}
 use Rattle.ibos_kernel.proofs.ActsStand.{step_holds, step_told}
 use Rattle.ibos_kernel.proofs.LogsGrow.{written_grows}
@@ -89,6 +90,28 @@ pub new_if : AreUnbornBare → (H : HostTable) (J K : Journal) (old new : TabTab
 new_if law H J K old new ended opened run turn = if_some (Starting (tabs H J) old new ended) (IsNew (with_ended ended (life_of H J)) (network J)) opened (λ who starts.
     let bare = law H J who run starts.unborn in
     record { dead = starts.dead; flows = bare.0; unread = bare.1 }) turn.begins
+
+-- ---- one begins
+
+endpoint_is : (tab : ℕ) (seat : Seat) (who : Instance) (place : Endpoint) → live_in tab seat ≡ Some who → IfSome seat.page (λ page. (place.addr ≡ page.addr) × (place.port ≡ page.port)) → endpoint_with seat.page ≡ place
+endpoint_is tab seat who place lives told = by_page seat.page seat.count lives told
+  where
+    by_page : (page : Option Page) (count : ℕ) → live_in tab (record { count = count; page = page }) ≡ Some who → IfSome page (λ p. (place.addr ≡ p.addr) × (place.port ≡ p.port)) → endpoint_with page ≡ place
+    by_page None count h same = absurd (cc h)
+    by_page (Some page) count h same = rw (sym same.0, sym same.1) refl
+
+pub begun_stands : (opened : Option Instance) (who : Instance) → opened ≡ Some who → (t : TabTable) (place : Endpoint) (life : Instance → Life) (remotes : Instance → Endpoint) (n : Network) (net : NetState)
+    → IfSome opened (λ q. live_at t q.tab ≡ Some q) → IfSome (seat_at t who.tab).page (λ page. (place.addr ≡ page.addr) × (place.port ≡ page.port)) → IfSome opened (IsNew life n)
+    → (life who ≢ Alive → n.flows who ≡ [] → n.unread who ≡ [] → NetStands (with_life who Alive life) (with_remote who place remotes) n net)
+    → NetStands (with_begun opened life) (remotes_with t opened remotes) n net
+begun_stands opened who is t place life remotes n net lives told fresh stands =
+    let P : Option Instance → Type 0 = λ o. IfSome o (λ q. live_at t q.tab ≡ Some q) → IfSome o (IsNew life n) → NetStands (with_begun o life) (remotes_with t o remotes) n net in
+    subst P (sym is) here lives fresh
+  where
+    here : live_at t who.tab ≡ Some who → IsNew life n who → NetStands (with_begun (Some who) life) (remotes_with t (Some who) remotes) n net
+    here live new =
+        let Q : Endpoint → Type 0 = λ e. NetStands (with_life who Alive life) (with_remote who e remotes) n net in
+        subst Q (sym (endpoint_is who.tab (seat_at t who.tab) who place live told)) (stands new.dead new.flows new.unread)
 
 -- ---- the net half after it
 

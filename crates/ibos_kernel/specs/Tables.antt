@@ -170,7 +170,7 @@ abbrev pub press_at : HostTable → TabTable → Focused → Key → Outcome
 press_at H t f key = if is_entry f.spot then entry_key_at H t f.entry_line key
     else page_key_outcome (active_in t) key
 
--- the outcome of an act by the tables, where its actor may act
+-- the outcome of an act of the pages' half by the tables, where its actor may act
 abbrev pub admitted_outcome : Parts → Act → Outcome
 admitted_outcome t (Start tab url) = started_by (start_in t.tabs tab) (allowed t.hosts url)
 admitted_outcome t (Switch tab) = if is_some (seat_at t.tabs tab).page then accepted []
@@ -186,7 +186,7 @@ admitted_outcome t (CookieSet side who text) = answer
 admitted_outcome t (CookieGet side who) = get_at t.jars (origin_at t.tabs who) who
 admitted_outcome t other = accepted []
 
--- the outcome of an act, by the tables
+-- the same, where it may act or not
 abbrev pub outcome_by : Parts → Act → Outcome
 outcome_by t act = let_in (admission_of t.tabs act) (admitted_outcome t act)
 
