@@ -1,5 +1,7 @@
 -- After an act of the pages' half the net half stands for the journal with its entry.
-use Rattle.std.proofs.Common.{◌≡◌, ◌≢◌, ℕ, ◌+◌, ◌<◌, ◌≤◌, false, List, [], ◌∷◌, Option, Some, None, Ok, IfSome, refl, sym, ◌∙◌, ap, subst, arith}
+use Rattle.std.proofs.Common.{◌≡◌, ◌≢◌, ℕ, ◌+◌, ◌<◌, ◌≤◌, true, false, List, [], ◌∷◌, Option, Some, None, Ok, IfSome, refl, sym, ◌∙◌, ap, subst, arith}
+use Rattle.std.specs.Prelude.{if◌then◌else◌}
+use Rattle.std.proofs.lemmas.Bool.Decides.{nat_tests}
 use Rattle.ibos_kinds.specs.declared.act.Act.{Act}
 use Rattle.ibos_kinds.specs.declared.act.Act.TheVariants.{Start, Switch, Close, Press, Click, Look, Go, Draw, CookieSet, CookieGet}
 use Rattle.ibos_kinds.specs.declared.names.Endpoint.{Endpoint}
@@ -15,12 +17,12 @@ use Rattle.ibos_origin.specs.Tables.{HasPlainNames}
 use Rattle.ibos_page.specs.Seats.{Seat}
 use Rattle.ibos_page.specs.Tabs.{TabTable, live_at, live_in, seat_at}
 use Rattle.ibos_model.specs.Focus.{focus_of}
-use Rattle.ibos_model.specs.Journal.{Journal, frame_of, is_ok}
+use Rattle.ibos_model.specs.Journal.{Journal, frame_of, is_ok, same}
 use Rattle.ibos_model.specs.Laws.{AreSetsPut, AreUnbornBare}
 use Rattle.ibos_model.specs.Logs.{got_for, log_after, log_by}
 use Rattle.ibos_model.specs.Network.{Network, network}
 use Rattle.ibos_model.specs.Runs.{IsRun}
-use Rattle.ibos_model.specs.Tabs.{Alive, Life, Tabs, changes, life_of, tabs}
+use Rattle.ibos_model.specs.Tabs.{Alive, Gone, Life, Tabs, changes, life_in, life_of, tabs}
 use Rattle.ibos_net.specs.NetStanding.{AreRegisters, NetStands, NetState, areas_of, is_net, with_life, with_remote}
 use Rattle.ibos_kernel.specs.Tables.{Parts, Serves, started, tabs_after}
 use Rattle.ibos_kernel.specs.Standing.{Agrees, IsCounted, NetStandsFor, PartsStand, entry, remote_of}
@@ -112,6 +114,24 @@ begun_stands opened who is t place life remotes n net lives told fresh stands =
     here live new =
         let Q : Endpoint → Type 0 = λ e. NetStands (with_life who Alive life) (with_remote who e remotes) n net in
         subst Q (sym (endpoint_is who.tab (seat_at t who.tab) who place live told)) (stands new.dead new.flows new.unread)
+
+pub ended_stands : (ended : Option Instance) (who : Instance) → ended ≡ Some who → (life : Instance → Life) (remotes : Instance → Endpoint) (n : Network) (net : NetState)
+    → NetStands (with_life who Gone life) remotes n net → NetStands (with_ended ended life) remotes n net
+ended_stands ended who is life remotes n net stands =
+    let P : Option Instance → Type 0 = λ o. NetStands (with_ended o life) remotes n net in
+    subst P (sym is) stands
+
+-- an act that leaves the tabs ends no instance and starts none
+pub none_turned : (H : HostTable) (T U : Tabs) (old new : TabTable) (ended opened : Option Instance) → Turned H T U old new ended opened → U ≡ T → new ≡ old → (ended ≡ None) × (opened ≡ None)
+none_turned H T U old new None None turn still kept = (refl, refl)
+none_turned H T U old new (Some who) None turn still kept =
+    let here : same who who ≡ true = grind (arith, nat_tests) in
+    let gone : (if same who who then Gone else life_in T who) ≡ Gone = rw here refl in
+    let clash : Alive ≡ Gone = sym turn.ends ∙ (sym (ap (λ t. life_in t who) still) ∙ (turn.life who ∙ gone)) in
+    absurd (cc clash)
+none_turned H T U old new ended (Some who) turn still kept =
+    let more : started old.seats ≡ started old.seats + 1 = ap (λ (t : TabTable). started t.seats) (sym kept) ∙ turn.counted in
+    absurd (omega arith)
 
 -- ---- the net half after it
 

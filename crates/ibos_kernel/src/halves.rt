@@ -151,6 +151,7 @@ fn serve_pages(
     ensures hosts { pages.new.hosts ≡ pages.old.hosts }
 {
     // Called for what their contracts say.
+    denials_change_nothing();
     unborn_have_nothing();
     endpoints_follow_origins();
     lives_may_change();

@@ -2,9 +2,10 @@ use Rattle.std.proofs.Common.{◌+◌, [], refl, ◌∙◌, ap}
 use Rattle.ibos_model.specs.Network.{network}
 use Rattle.ibos_model.specs.Tabs.{life_of}
 use Rattle.ibos_kernel.specs.Tables.{Parts}
-use Rattle.ibos_kernel.specs.Standing.{remote_of}
+use Rattle.ibos_model.specs.Laws.{Views}
+use Rattle.ibos_kernel.specs.Standing.{entry, remote_of}
 use Rattle.ibos_kernel.specs.Halves.{begun, opened_in, with_ended}
-use Rattle.ibos_kernel.proofs.PageActs.{counted_after, lives_if, named_if, net_goes, new_if, origins_of, room_if, turn_made}
+use Rattle.ibos_kernel.proofs.PageActs.{counted_after, lives_if, named_if, net_goes, new_if, none_turned, origins_of, room_if, turn_made}
 use Rattle.ibos_kernel.proofs.halves.serve_pages.Goals as goal
 
 pub end-requires : goal.end-requires
@@ -83,3 +84,16 @@ returns-clause-counted c =
     let turn = turn_made J c.args.pages.now c.serve.new.self c.args.act.now c.serve.new.out [] c.ended_in.result c.opened_in.result origins c.requires.pages stand.pages_stand c.requires.fits c.requires.counted.few
     c.in_ok-serve.ensures.serves c.ended_in.ensures c.opened_in.ensures in
     counted_after _ _ _ _ _ c.ended_in.result c.opened_in.result c.args.net.now c.begin.new.net c.requires.counted turn (c.in_ok-begin.ensures.areas ∙ ap (λ n. n + begun c.opened_in.result) c.end.ensures.areas)
+
+pub returns-clause-denied : goal.returns-clause-denied
+returns-clause-denied c = λ denied.
+    let H = c.args.pages.now.hosts in
+    let origins = origins_of H c.pages.inside.hosts (ap (λ (p : Parts). p.hosts) c.pages.view_is) c.sound.ensures.plain c.endpoints_follow_origins.ensures.endpoint in
+    let J = c.requires.together.0 in
+    let stand = c.requires.together.1 in
+    let turn = turn_made J c.args.pages.now c.serve.new.self c.args.act.now c.serve.new.out [] c.ended_in.result c.opened_in.result origins c.requires.pages stand.pages_stand c.requires.fits c.requires.counted.few
+    c.in_ok-serve.ensures.serves c.ended_in.ensures c.opened_in.ensures in
+    let still = ap (λ (v : Views). v.tabs) (c.denials_change_nothing.ensures H J (entry c.args.act.now c.serve.new.out []) denied) in
+    let kept = ap (λ (p : Parts). p.tabs) (c.in_ok-serve.ensures.serves.denied denied) in
+    let none = none_turned H _ _ _ _ c.ended_in.result c.opened_in.result turn still kept in
+    c.begin.ensures.none none.1 ∙ c.end.ensures.none none.0
