@@ -13,7 +13,8 @@ use Rattle.ibos_kinds.specs.Limits.{IsNamed}
 use Rattle.ibos_kinds.specs.Parties.{same}
 use Rattle.ibos_kinds.specs.Ports.{AreOwned, HaveOwners, owner_of, port_of}
 use Rattle.ibos_kinds.specs.Flows.{Bound, proto_at, is_over, same_end, admitted_by, named, found_by}
-use Rattle.ibos_flow.specs.Flows.{Table, bound_by, found, checked_for, IsOpen, Suits, HasEnd, AreFound, AreMissed, AreForeign, AreChecked}
+use Rattle.ibos_kinds.specs.Sends.{checked_by}
+use Rattle.ibos_flow.specs.Flows.{Table, bound_by, found, IsOpen, Suits, HasEnd, AreFound, AreMissed, AreForeign, AreChecked}
 
 end_is : (p q : Endpoint) → same_end p q ≡ true → p ≡ q
 end_is p q h =
@@ -215,7 +216,7 @@ pub are_checked : AreChecked
 are_checked t h who flow low = by_owner (owner_of h.port)
   where
     Claim : Option (Instance × ℕ) → Type 0
-    Claim o = (checked_for t who o h ≡ Ok flow) ↔ (found_by (bound_by t) o h ≡ Ok (who, flow))
+    Claim o = (checked_by who (bound_by t who) o h ≡ Ok flow) ↔ (found_by (bound_by t) o h ≡ Ok (who, flow))
 
     by_owner : (o : Option (Instance × ℕ)) → Claim o
     by_owner None = ((λ e. absurd (clash e)), (λ e. absurd (clash_pair e)))

@@ -8,10 +8,10 @@ use Rattle.ibos_kinds.specs.declared.names.Endpoint.{Endpoint}
 use Rattle.ibos_kinds.specs.declared.names.Heading.{Heading}
 use Rattle.ibos_kinds.specs.declared.rule.Rule.{Rule}
 use Rattle.ibos_kinds.specs.declared.rule.Rule.TheVariants.{F12, F13}
-use Rattle.ibos_kinds.specs.Flows.{Bound, admitted_by, found_by, proto_at}
+use Rattle.ibos_kinds.specs.Flows.{Bound, found_by, proto_at}
 use Rattle.ibos_kinds.specs.Limits.{IsNamed}
-use Rattle.ibos_kinds.specs.Parties.{same}
 use Rattle.ibos_kinds.specs.Ports.{owner_of, port_of}
+use Rattle.ibos_kinds.specs.Sends.{checked_by}
 
 -- one place for each instance, of those that were added and not ended
 abbrev pub Table : Type 0
@@ -32,13 +32,8 @@ abbrev pub found : Table → Heading → Result (Instance × ℕ) Rule
 found table heading = found_by (bound_by table) (owner_of heading.port) heading
 
 -- the flow of that instance that has them
-abbrev pub checked_for : Table → Instance → Option (Instance × ℕ) → Heading → Result ℕ Rule
-checked_for table who None heading = Err F12
-checked_for table who (Some (owner, flow)) heading =
-    if same owner who then admitted_by (bound_by table who) flow heading else Err F12
-
 abbrev pub checked : Table → Instance → Heading → Result ℕ Rule
-checked table who heading = checked_for table who (owner_of heading.port) heading
+checked table who heading = checked_by who (bound_by table who) (owner_of heading.port) heading
 
 -- ---- the same without the way that a port is taken apart
 

@@ -1,5 +1,5 @@
--- The ranges of an act's fields: 64 tabs, 32 instances a tab, 16 flows an instance, and the bytes
--- that a key writes.
+-- The ranges of an act's fields: 64 tabs, 32 instances a tab, 16 flows and 4 transmit buffers an
+-- instance, and the bytes that a key writes.
 use Rattle.std.specs.Prelude.{◌<◌, ◌≤◌}
 use Rattle.ibos_kinds.specs.declared.names.Instance.{Instance}
 use Rattle.ibos_kinds.specs.declared.names.Key.{Key}
@@ -9,6 +9,9 @@ use Rattle.ibos_kinds.specs.declared.act.Act.TheVariants.{Start, Switch, Close, 
 use Rattle.ibos_kinds.specs.declared.act.Act.TheVariants.{Go, Draw, CookieSet, CookieGet}
 use Rattle.ibos_kinds.specs.declared.act.Act.TheVariants.{Bind, Unbind, Done, RegRead, RegWrite}
 use Rattle.ibos_kinds.specs.declared.act.Act.TheVariants.{RxPost, RxBell, WireIn}
+use Rattle.ibos_kinds.specs.declared.act.Act.TheVariants.{Fill, Submit, TxPost, TxBell, WireOut}
+use Rattle.ibos_kinds.specs.declared.act.Act.TheVariants.{Put, Ask, StoreAnswer, StoreNone}
+use Rattle.ibos_kinds.specs.declared.act.Act.TheVariants.{StoreLose}
 
 -- an instance that a run can reach
 abbrev pub IsNamed : Instance → Type 0
@@ -40,3 +43,13 @@ Fits (RegWrite offset value) = Unit {0}
 Fits (RxPost slot handle) = Unit {0}
 Fits RxBell = Unit {0}
 Fits (WireIn frame) = Unit {0}
+Fits (Fill who buffer place bytes) = IsNamed who × (buffer < 4)
+Fits (Submit who buffer len) = IsNamed who × (buffer < 4)
+Fits (TxPost slot send) = Unit {0}
+Fits TxBell = Unit {0}
+Fits WireOut = Unit {0}
+Fits (Put who key bytes) = IsNamed who
+Fits (Ask who key) = IsNamed who
+Fits (StoreAnswer who request origin key version) = IsNamed who
+Fits (StoreNone who request) = IsNamed who
+Fits (StoreLose origin key version) = Unit {0}

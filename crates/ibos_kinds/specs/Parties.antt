@@ -6,11 +6,17 @@ use Rattle.ibos_kinds.specs.declared.act.Act.TheVariants.{Start, Switch, Close, 
 use Rattle.ibos_kinds.specs.declared.act.Act.TheVariants.{Go, Draw, CookieSet, CookieGet}
 use Rattle.ibos_kinds.specs.declared.act.Act.TheVariants.{Bind, Unbind, Done, RegRead, RegWrite}
 use Rattle.ibos_kinds.specs.declared.act.Act.TheVariants.{RxPost, RxBell, WireIn}
+use Rattle.ibos_kinds.specs.declared.act.Act.TheVariants.{Fill, Submit, TxPost, TxBell, WireOut}
+use Rattle.ibos_kinds.specs.declared.act.Act.TheVariants.{Put, Ask, StoreAnswer, StoreNone}
+use Rattle.ibos_kinds.specs.declared.act.Act.TheVariants.{StoreLose}
 use Rattle.ibos_kinds.specs.declared.outcome.Item.{Item}
 use Rattle.ibos_kinds.specs.declared.outcome.Item.TheVariants.{Opened, Moved, Ended, KeyTo, ClickTo}
 use Rattle.ibos_kinds.specs.declared.outcome.Item.TheVariants.{Cookies, RowIs, FlowIs}
 use Rattle.ibos_kinds.specs.declared.outcome.Item.TheVariants.{Arrived, ValueIs, LentIs, VerdictIs}
-use Rattle.ibos_kinds.specs.declared.outcome.Item.TheVariants.{Dropped}
+use Rattle.ibos_kinds.specs.declared.outcome.Item.TheVariants.{Dropped, Home, SendIs, Returned}
+use Rattle.ibos_kinds.specs.declared.outcome.Item.TheVariants.{SentIs, Idle, Accepted, VersionIs}
+use Rattle.ibos_kinds.specs.declared.outcome.Item.TheVariants.{RequestIs, Object, NoObject}
+use Rattle.ibos_kinds.specs.declared.outcome.Item.TheVariants.{StorePut, StoreAsk}
 use Rattle.ibos_kinds.specs.declared.party.Party.{Party}
 use Rattle.ibos_kinds.specs.declared.party.Party.TheVariants.{Page, Driver, Store, User, Wire, Log}
 
@@ -34,6 +40,16 @@ actor (RegWrite offset value) = Driver
 actor (RxPost slot handle) = Driver
 actor RxBell = Driver
 actor (WireIn frame) = Wire
+actor (Fill who buffer place bytes) = Page who
+actor (Submit who buffer len) = Page who
+actor (TxPost slot send) = Driver
+actor TxBell = Driver
+actor WireOut = Wire
+actor (Put who key bytes) = Page who
+actor (Ask who key) = Page who
+actor (StoreAnswer who request origin key version) = Store
+actor (StoreNone who request) = Store
+actor (StoreLose origin key version) = Store
 
 -- the party that an item is addressed to
 abbrev pub addressee : Item → Party
@@ -50,6 +66,18 @@ addressee (ValueIs value) = Driver
 addressee (LentIs handle) = Driver
 addressee (VerdictIs verdict) = Wire
 addressee (Dropped rule) = Log
+addressee (Home who buffer) = Page who
+addressee (SendIs send) = Driver
+addressee (Returned send) = Driver
+addressee (SentIs send) = Wire
+addressee Idle = Wire
+addressee (Accepted send who bytes) = Log
+addressee (VersionIs who version) = Page who
+addressee (RequestIs who request) = Page who
+addressee (Object who request version bytes) = Page who
+addressee (NoObject who request) = Page who
+addressee (StorePut origin key version len) = Store
+addressee (StoreAsk who request origin key) = Store
 
 abbrev pub same : Instance → Instance → Bool
 same p q = p.tab == q.tab && p.ord == q.ord

@@ -92,11 +92,63 @@ pub enum Act {
     WireIn {
         frame: Bytes,
     },
+    /// A network process writes into one of its transmit buffers, from a place on.
+    Fill {
+        who: Instance,
+        buffer: u8,
+        place: u32,
+        bytes: Bytes,
+    },
+    /// A network process wants the first bytes of a transmit buffer sent as a frame.
+    Submit {
+        who: Instance,
+        buffer: u8,
+        len: u32,
+    },
+    /// The driver posts an accepted send at a slot of the transmit ring.
+    TxPost {
+        slot: u32,
+        send: u32,
+    },
+    /// The driver asks for the buffers of frames that were sent.
+    TxBell,
+    /// The wire has room for a frame.
+    WireOut,
+    /// A renderer stores an object of its origin under a key.
+    Put {
+        who: Instance,
+        key: Bytes,
+        bytes: Bytes,
+    },
+    /// A renderer asks for the object of its origin under a key.
+    Ask {
+        who: Instance,
+        key: Bytes,
+    },
+    /// The storage process answers a request by a label: an origin, a key and a version.
+    StoreAnswer {
+        who: Instance,
+        request: u32,
+        origin: Bytes,
+        key: Bytes,
+        version: u32,
+    },
+    /// The storage process has no object for a request.
+    StoreNone {
+        who: Instance,
+        request: u32,
+    },
+    /// The storage process lost a version of an object.
+    StoreLose {
+        origin: Bytes,
+        key: Bytes,
+        version: u32,
+    },
 }
 
 impl Act {
-    /// Whether each field is in its range: tabs below 64, ordinals below 32, flows below 16, a key's
-    /// byte 0x20 to 0x7E.
+    /// Whether each field is in its range: tabs below 64, ordinals below 32, flows below 16,
+    /// transmit buffers below 4, a key's byte 0x20 to 0x7E.
     pub fn fits(&self) -> bool
         ensures { IsTrue result ↔ Fits self.now }
     {
@@ -117,6 +169,14 @@ impl Act {
             Act::RegRead { .. } | Act::RegWrite { .. } => true,
             Act::RxPost { .. } | Act::RxBell => true,
             Act::WireIn { .. } => true,
+            Act::Fill { who, buffer, .. } => is_named(*who) && *buffer < 4,
+            Act::Submit { who, buffer, .. } => is_named(*who) && *buffer < 4,
+            Act::TxPost { .. } | Act::TxBell | Act::WireOut => true,
+            Act::Put { who, .. } => is_named(*who),
+            Act::Ask { who, .. } => is_named(*who),
+            Act::StoreAnswer { who, .. } => is_named(*who),
+            Act::StoreNone { who, .. } => is_named(*who),
+            Act::StoreLose { .. } => true,
         }
     }
 }

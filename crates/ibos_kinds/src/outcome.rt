@@ -79,6 +79,67 @@ pub enum Item {
     Dropped {
         rule: Rule,
     },
+    /// A transmit buffer that is its instance's again, with the bytes that it had at its submit.
+    Home {
+        who: Instance,
+        buffer: u8,
+    },
+    /// The number of a send that was accepted, which the driver may post.
+    SendIs {
+        send: u32,
+    },
+    /// A send whose buffer came back from the ring.
+    Returned {
+        send: u32,
+    },
+    /// The send whose frame went out.
+    SentIs {
+        send: u32,
+    },
+    /// No frame went out.
+    Idle,
+    /// A send that was accepted: its number, its sender, and its frame.
+    Accepted {
+        send: u32,
+        who: Instance,
+        bytes: Bytes,
+    },
+    /// The version of an object that an instance stored.
+    VersionIs {
+        who: Instance,
+        version: u32,
+    },
+    /// The number of an instance's request for an object.
+    RequestIs {
+        who: Instance,
+        request: u32,
+    },
+    /// The object that was asked for, in its newest version.
+    Object {
+        who: Instance,
+        request: u32,
+        version: u32,
+        bytes: Bytes,
+    },
+    /// There is no object for a request.
+    NoObject {
+        who: Instance,
+        request: u32,
+    },
+    /// An object that is to be stored: its label, and its length in bytes.
+    StorePut {
+        origin: Bytes,
+        key: Bytes,
+        version: u32,
+        len: u32,
+    },
+    /// A request for the object of an origin under a key.
+    StoreAsk {
+        who: Instance,
+        request: u32,
+        origin: Bytes,
+        key: Bytes,
+    },
 }
 
 /// Items in their order, which contracts see as the list of them.

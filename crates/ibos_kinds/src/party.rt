@@ -37,7 +37,13 @@ pub fn actor(act: &Act) -> Party
         Act::Done { who } => Party::Page(*who),
         Act::RegRead { .. } | Act::RegWrite { .. } => Party::Driver,
         Act::RxPost { .. } | Act::RxBell => Party::Driver,
-        Act::WireIn { .. } => Party::Wire,
+        Act::WireIn { .. } | Act::WireOut => Party::Wire,
+        Act::Fill { who, .. } => Party::Page(*who),
+        Act::Submit { who, .. } => Party::Page(*who),
+        Act::TxPost { .. } | Act::TxBell => Party::Driver,
+        Act::Put { who, .. } => Party::Page(*who),
+        Act::Ask { who, .. } => Party::Page(*who),
+        Act::StoreAnswer { .. } | Act::StoreNone { .. } | Act::StoreLose { .. } => Party::Store,
     }
 }
 
@@ -59,5 +65,14 @@ pub fn addressee(item: &Item) -> Party
         Item::LentIs { .. } => Party::Driver,
         Item::VerdictIs { .. } => Party::Wire,
         Item::Dropped { .. } => Party::Log,
+        Item::Home { who, .. } => Party::Page(*who),
+        Item::SendIs { .. } | Item::Returned { .. } => Party::Driver,
+        Item::SentIs { .. } | Item::Idle => Party::Wire,
+        Item::Accepted { .. } => Party::Log,
+        Item::VersionIs { who, .. } => Party::Page(*who),
+        Item::RequestIs { who, .. } => Party::Page(*who),
+        Item::Object { who, .. } => Party::Page(*who),
+        Item::NoObject { who, .. } => Party::Page(*who),
+        Item::StorePut { .. } | Item::StoreAsk { .. } => Party::Store,
     }
 }

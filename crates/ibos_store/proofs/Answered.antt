@@ -3,8 +3,8 @@ use Rattle.std.proofs.Common.{◌≡◌, ℕ, List, Bool, true, false, refl, sym
 use Rattle.std.specs.Prelude.{◌==◌, bytes_eq, not, IsSomeAnd, if◌then◌else◌}
 use Rattle.std.proofs.lemmas.Bool.Decides.{nat_tests}
 use Rattle.ibos_kinds.specs.declared.rule.Rule.TheVariants.{S6, S7, S8}
-use Rattle.ibos_store.specs.Objects.{Newest}
-use Rattle.ibos_store.specs.Answers.{bytes_answer, newest_answer, label_answer}
+use Rattle.ibos_kinds.specs.Objects.{Newest}
+use Rattle.ibos_kinds.specs.Labels.{bytes_answer, newest_answer, label_answer}
 use Rattle.ibos_store.proofs.Sums.{same_texts}
 
 same_number : (a b : ℕ) → (a == b) ≡ true → a ≡ b

@@ -7,7 +7,7 @@ use Rattle.std.specs.Option.{unwrap_or}
 use Rattle.std.specs.Cmp.Lexicographic.{nat_list_eq_equiv}
 use Rattle.std.proofs.lemmas.Map.Steps.{set_value_same}
 use Rattle.indexmap.specs.IndexMap.{insert_entry}
-use Rattle.ibos_store.specs.Objects.{Newest, KeyObject, newest_in, with_newest}
+use Rattle.ibos_kinds.specs.Objects.{Newest, KeyObject, newest_in, with_newest}
 use Rattle.ibos_store.specs.Stores.{OriginObjects, objects_in, PutsObjects, key_objects, origin_objects}
 use Rattle.ibos_store.proofs.Sums.{same_texts, apart, at_own, at_other}
 

@@ -6,7 +6,7 @@ use Rattle.std.proofs.lemmas.List.{get_or-set_same, get_or-set_other, get_or_rea
 use Rattle.std.proofs.Math.ListN.{get_or-eq_default}
 use Rattle.ibos_kinds.specs.declared.names.Instance.{Instance}
 use Rattle.std.specs.Option.{option_map}
-use Rattle.ibos_store.specs.Requests.{Asked, Requests, is_numbered, key_in, without_request}
+use Rattle.ibos_kinds.specs.Requests.{Asked, Requests, is_numbered, key_in, without_request}
 use Rattle.ibos_store.specs.Stores.{place_of, requests_in, key_at}
 
 -- what stands at an instance's place

@@ -6,8 +6,8 @@ use Rattle.std.specs.Map.{lookup, set_value}
 use Rattle.indexmap.specs.IndexMap.{insert_entry}
 use Rattle.ibos_kinds.specs.declared.rule.Rule.{Rule}
 use Rattle.ibos_kinds.specs.declared.rule.Rule.TheVariants.{S3}
-use Rattle.ibos_store.specs.Objects.{Newest, KeyObject, newest_in, version_of, after_put, after_loss, with_newest, with_put, with_loss, with_loss_of, stored_bytes, is_over}
-use Rattle.ibos_store.specs.Answers.{quota_answer}
+use Rattle.ibos_kinds.specs.Objects.{Newest, KeyObject, newest_in, version_of, after_put, after_loss, with_newest, with_put, with_loss, with_loss_of, stored_bytes, is_over}
+use Rattle.ibos_kinds.specs.Labels.{quota_answer}
 use Rattle.ibos_store.specs.Stores.{key_objects}
 use Rattle.ibos_store.proofs.Sums.{with-same, counts_held, sum_new, stored_within, over_by}
 use Rattle.ibos_store.proofs.Finding.{newest_found, objects_set, objects_inserted}

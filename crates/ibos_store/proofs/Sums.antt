@@ -6,7 +6,7 @@ use Rattle.std.specs.Cmp.Lexicographic.{nat_list_eq_equiv}
 use Rattle.std.proofs.lemmas.Bool.Decides.{nat_tests}
 use Rattle.std.proofs.lemmas.Slice.Eq.{bytes_eq-Decides}
 use Rattle.std.proofs.lemmas.List.Sums.{sum_by-cons}
-use Rattle.ibos_store.specs.Objects.{Newest, KeyObject, newest_in, after_loss, with_newest, with_loss, with_loss_of, stored_bytes, is_over}
+use Rattle.ibos_kinds.specs.Objects.{Newest, KeyObject, newest_in, after_loss, with_newest, with_loss, with_loss_of, stored_bytes, is_over}
 
 pub same_texts : (xs ys : List ℕ) → bytes_eq xs ys ≡ true → xs ≡ ys
 same_texts xs ys h = (bytes_eq-Decides xs ys).0 h

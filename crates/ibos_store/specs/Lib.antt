@@ -1,4 +1,2 @@
-pub mod Objects
-pub mod Requests
 pub mod Answers
 pub mod Stores

@@ -4,8 +4,8 @@ use Rattle.std.specs.Prelude.{Option, Some, None, option_and_then, if◌then◌e
 use Rattle.std.specs.List.{slice_index_or}
 use Rattle.std.specs.Global.{Vec}
 use Rattle.ibos_kinds.specs.declared.names.Instance.{Instance}
-use Rattle.ibos_store.specs.Objects.{Newest, KeyObject, newest_in}
-use Rattle.ibos_store.specs.Requests.{Requests, key_in}
+use Rattle.ibos_kinds.specs.Objects.{Newest, KeyObject, newest_in}
+use Rattle.ibos_kinds.specs.Requests.{Requests, key_in}
 
 pub record OriginObjects : Type 0 where
   pub origin : List ℕ

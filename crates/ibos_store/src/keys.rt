@@ -1,7 +1,7 @@
 // What a key may be.
 ghost use Rattle.std.specs.Prelude.{◌≡◌};
 ghost use Rattle.std.specs.List.{list_all};
-ghost use Rattle.ibos_store.specs.Objects as spec;
+ghost use Rattle.ibos_kinds.specs.Objects as spec;
 
 const MAX_KEY: usize = 64;
 
@@ -18,7 +18,7 @@ fn all_key_bytes(key: &[u8]) -> bool
 }
 
 /// Whether a key is 1 to 64 printable bytes without a space.
-#[tactic(auto, unfolding(crate::specs::Objects::is_key))]
+#[tactic(auto, unfolding(ibos_kinds::specs::Objects::is_key))]
 pub(crate) fn is_key(key: &[u8]) -> bool
     ensures { result ≡ spec.is_key key.now }
 {

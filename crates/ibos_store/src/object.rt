@@ -1,7 +1,8 @@
 // What stands under one key.
 ghost use Rattle.std.specs.Prelude.{◌≡◌, ◌<◌, ◌^◌, ◌+◌, length, None, Some, IfOk, OnOk, OnErr};
-ghost use Rattle.ibos_store.specs.Objects.{after_loss, after_put};
-ghost use Rattle.ibos_store.specs.Answers.{Answers, lose_answer, newest_answer};
+ghost use Rattle.ibos_kinds.specs.Objects.{after_loss, after_put};
+ghost use Rattle.ibos_store.specs.Answers.{Answers};
+ghost use Rattle.ibos_kinds.specs.Labels.{lose_answer, newest_answer};
 
 use crate::fault::StoreFault;
 use ibos_kinds::{Bytes, Memory, Rule};
@@ -18,7 +19,7 @@ pub(crate) struct Object {
 }
 
 impl Model for Object {
-    ghost use Rattle.ibos_store.specs.Objects.{Newest};
+    ghost use Rattle.ibos_kinds.specs.Objects.{Newest};
 
     ghost Value = { Newest };
 

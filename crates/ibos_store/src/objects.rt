@@ -1,7 +1,8 @@
 // The objects of one origin.
 ghost use Rattle.std.specs.Prelude.{◌≡◌, ◌≤◌, ◌<◌, ◌+◌, ◌^◌, [], nat_lt, ◌||◌, length, OnOk, OnErr};
-ghost use Rattle.ibos_store.specs.Objects.{newest_in, version_of, with_put, with_loss};
-ghost use Rattle.ibos_store.specs.Answers.{Answers, lose_answer, newest_answer, quota_answer};
+ghost use Rattle.ibos_kinds.specs.Objects.{newest_in, version_of, with_put, with_loss};
+ghost use Rattle.ibos_store.specs.Answers.{Answers};
+ghost use Rattle.ibos_kinds.specs.Labels.{lose_answer, newest_answer, quota_answer};
 
 use crate::fault::StoreFault;
 use crate::object::Object;
@@ -22,7 +23,7 @@ pub(crate) struct Objects {
 
 impl Model for Objects {
     ghost use Rattle.std.specs.Prelude.{◌≡◌, List, false};
-    ghost use Rattle.ibos_store.specs.Objects.{KeyObject, is_over, stored_bytes};
+    ghost use Rattle.ibos_kinds.specs.Objects.{KeyObject, is_over, stored_bytes};
     ghost use Rattle.ibos_store.specs.Stores.{key_objects};
 
     ghost Value = { List KeyObject };

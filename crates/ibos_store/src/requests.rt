@@ -1,9 +1,10 @@
 // The requests of one instance.
 ghost use Rattle.std.specs.Prelude.{◌≡◌, ◌<◌, ◌^◌, OnOk, OnErr};
 ghost use Rattle.std.specs.Option.{option_copied};
-ghost use Rattle.ibos_store.specs.Requests as spec;
-ghost use Rattle.ibos_store.specs.Requests.{key_in, no_requests, with_ask, without_request};
-ghost use Rattle.ibos_store.specs.Answers.{Answers, ask_answer};
+ghost use Rattle.ibos_kinds.specs.Requests as spec;
+ghost use Rattle.ibos_kinds.specs.Requests.{key_in, no_requests, with_ask, without_request};
+ghost use Rattle.ibos_store.specs.Answers.{Answers};
+ghost use Rattle.ibos_kinds.specs.Labels.{ask_answer};
 
 use crate::fault::StoreFault;
 use crate::keys::is_key;
@@ -21,7 +22,7 @@ struct Asked {
 }
 
 impl Model for Asked {
-    ghost use Rattle.ibos_store.specs.Requests as spec;
+    ghost use Rattle.ibos_kinds.specs.Requests as spec;
 
     ghost Value = { spec.Asked };
 
@@ -50,7 +51,7 @@ pub(crate) struct Requests {
 }
 
 impl Model for Requests {
-    ghost use Rattle.ibos_store.specs.Requests as spec;
+    ghost use Rattle.ibos_kinds.specs.Requests as spec;
 
     ghost Value = { spec.Requests };
 
@@ -69,7 +70,7 @@ impl Requests {
     }
 
     /// Asks for a key, and answers the request's number.
-    #[tactic(auto, unfolding(crate::specs::Answers::ask_answer))]
+    #[tactic(auto, unfolding(ibos_kinds::specs::Labels::ask_answer))]
     pub(crate) fn ask(&mut self, alloc: Global, key: &[u8]) -> Result<u32, StoreFault>
         requires { self.old.count < 2 ^ 31 }
         ensures answer { Answers result (ask_answer key.now self.old) }

@@ -3,10 +3,11 @@ ghost use Rattle.std.specs.Prelude.{◌≡◌, ◌≢◌, ◌<◌, ◌^◌, [], 
 ghost use Rattle.std.specs.Prelude.{OnOk, OnErr};
 ghost use Rattle.std.specs.Option.{option_map};
 ghost use Rattle.ibos_kinds.specs.declared.names.Instance.{Instance};
-ghost use Rattle.ibos_store.specs.Objects.{after_loss, after_put, version_of, with_loss, with_put};
-ghost use Rattle.ibos_store.specs.Requests.{no_requests, with_ask, without_request};
-ghost use Rattle.ibos_store.specs.Answers.{Answers, ask_answer, label_answer, lose_answer};
-ghost use Rattle.ibos_store.specs.Answers.{newest_answer, none_answer, put_answer, quota_answer};
+ghost use Rattle.ibos_kinds.specs.Objects.{after_loss, after_put, version_of, with_loss, with_put};
+ghost use Rattle.ibos_kinds.specs.Requests.{no_requests, with_ask, without_request};
+ghost use Rattle.ibos_store.specs.Answers.{Answers};
+ghost use Rattle.ibos_kinds.specs.Labels.{ask_answer, label_answer, lose_answer};
+ghost use Rattle.ibos_kinds.specs.Labels.{newest_answer, none_answer, put_answer, quota_answer};
 
 use crate::fault::StoreFault;
 use crate::keys::is_key;
@@ -82,7 +83,7 @@ impl Store {
     /// accepted puts there. Broken are, the first that applies, S1 by a key that isn't 1 to 64
     /// printable bytes without a space, S2 by more than 2,048 bytes, and S3 where the origin would
     /// store more than it may. Out of memory, and after a refusal, the store is as before.
-    #[tactic(auto, unfolding(crate::specs::Answers::put_answer))]
+    #[tactic(auto, unfolding(ibos_kinds::specs::Labels::put_answer))]
     pub fn put(&mut self, origin: &[u8], key: &[u8], bytes: &[u8]) -> Result<u32, StoreFault>
         requires { version_of (object_at self.old origin.now key.now) < 2 ^ 31 }
         ensures answer { Answers result

@@ -3,8 +3,9 @@ ghost use Rattle.std.specs.Prelude.{◌≡◌, ◌≢◌, ℕ, ◌<◌, ◌^◌,
 ghost use Rattle.std.specs.Prelude.{slice_index_or, vec_len};
 ghost use Rattle.std.specs.Option.{option_copied, option_map};
 ghost use Rattle.ibos_kinds.specs.declared.names.Instance.{Instance};
-ghost use Rattle.ibos_store.specs.Requests.{no_requests, with_ask, without_request};
-ghost use Rattle.ibos_store.specs.Answers.{Answers, ask_answer};
+ghost use Rattle.ibos_kinds.specs.Requests.{no_requests, with_ask, without_request};
+ghost use Rattle.ibos_store.specs.Answers.{Answers};
+ghost use Rattle.ibos_kinds.specs.Labels.{ask_answer};
 ghost use Rattle.ibos_store.specs.Stores.{requests_in, key_at, SameRequests};
 ghost use Rattle.ibos_store.specs.Stores as spec;
 
@@ -22,7 +23,7 @@ pub(crate) struct RequestTable {
 
 impl Model for RequestTable {
     ghost use Rattle.std.specs.Prelude.{List, Option};
-    ghost use Rattle.ibos_store.specs.Requests as spec;
+    ghost use Rattle.ibos_kinds.specs.Requests as spec;
 
     ghost Value = { List (Option spec.Requests) };
 

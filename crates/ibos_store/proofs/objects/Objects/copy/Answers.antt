@@ -1,6 +1,7 @@
 use Rattle.std.proofs.Common.{sym, ap, subst, Option, Some, None}
-use Rattle.ibos_store.specs.Objects.{Newest}
-use Rattle.ibos_store.specs.Answers.{Answers, newest_answer}
+use Rattle.ibos_kinds.specs.Objects.{Newest}
+use Rattle.ibos_store.specs.Answers.{Answers}
+use Rattle.ibos_kinds.specs.Labels.{newest_answer}
 use Rattle.ibos_store.proofs.Finding.{newest_found}
 use Rattle.ibos_store.proofs.objects.Objects.copy.Goals as goal
 

@@ -1,5 +1,5 @@
 use Rattle.std.proofs.Common.{sym, ap, ◌∙◌, None}
-use Rattle.ibos_store.specs.Answers.{lose_answer}
+use Rattle.ibos_kinds.specs.Labels.{lose_answer}
 use Rattle.ibos_store.proofs.Finding.{newest_found}
 use Rattle.ibos_store.proofs.Putting.{then_ok, then_err, is_held, lost_kept, lost_set, same_set}
 use Rattle.ibos_store.proofs.objects.Objects.lose.Goals as goal

@@ -1,5 +1,5 @@
 use Rattle.std.proofs.Common.{◌∙◌, sym, ap}
-use Rattle.ibos_store.specs.Objects.{is_over, stored_bytes}
+use Rattle.ibos_kinds.specs.Objects.{is_over, stored_bytes}
 use Rattle.ibos_store.specs.Stores.{key_objects}
 use Rattle.ibos_store.proofs.Sums.{none_within}
 use Rattle.ibos_store.proofs.objects.Objects.new.Goals as goal

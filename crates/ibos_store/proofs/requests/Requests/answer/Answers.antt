@@ -1,7 +1,7 @@
 use Rattle.std.proofs.Common.{◌∙◌, ap, rules, List}
 use Rattle.std.specs.Prelude.{not}
 use Rattle.std.proofs.lemmas.Fn.{filter_same}
-use Rattle.ibos_store.specs.Requests.{Asked, is_numbered, without_request}
+use Rattle.ibos_kinds.specs.Requests.{Asked, is_numbered, without_request}
 use Rattle.ibos_store.proofs.requests.Requests.answer.Goals as goal
 
 pub returns : goal.returns

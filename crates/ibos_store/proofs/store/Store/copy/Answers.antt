@@ -1,6 +1,7 @@
 use Rattle.std.proofs.Common.{List, sym, ap, subst, Some, None}
-use Rattle.ibos_store.specs.Objects.{KeyObject, newest_in}
-use Rattle.ibos_store.specs.Answers.{Answers, newest_answer}
+use Rattle.ibos_kinds.specs.Objects.{KeyObject, newest_in}
+use Rattle.ibos_store.specs.Answers.{Answers}
+use Rattle.ibos_kinds.specs.Labels.{newest_answer}
 use Rattle.ibos_store.specs.Stores.{StoreState}
 use Rattle.ibos_store.proofs.Finding.{objects_found}
 use Rattle.ibos_store.proofs.store.Store.copy.Goals as goal

@@ -1,6 +1,6 @@
 use Rattle.std.proofs.Common.{List, refl, sym, ◌∙◌, ap, Some, None}
-use Rattle.ibos_store.specs.Objects.{KeyObject, newest_in, with_loss}
-use Rattle.ibos_store.specs.Answers.{lose_answer}
+use Rattle.ibos_kinds.specs.Objects.{KeyObject, newest_in, with_loss}
+use Rattle.ibos_kinds.specs.Labels.{lose_answer}
 use Rattle.ibos_store.specs.Stores.{OriginObjects, StoreState, objects_of, origin_objects}
 use Rattle.ibos_store.proofs.Finding.{objects_found, puts_set, puts_as, puts_newest, same_origins}
 use Rattle.ibos_store.proofs.Sums.{newest_in-with_loss}

@@ -1,6 +1,7 @@
 use Rattle.std.proofs.Common.{rules, ◌<◌, List, refl, sym, ◌∙◌, ap, subst, Some, None}
-use Rattle.ibos_store.specs.Objects.{KeyObject, newest_in, after_put, version_of, with_put}
-use Rattle.ibos_store.specs.Answers.{Answers, quota_answer}
+use Rattle.ibos_kinds.specs.Objects.{KeyObject, newest_in, after_put, version_of, with_put}
+use Rattle.ibos_store.specs.Answers.{Answers}
+use Rattle.ibos_kinds.specs.Labels.{quota_answer}
 use Rattle.ibos_store.specs.Stores.{OriginObjects, StoreState, objects_of, origin_objects}
 use Rattle.ibos_store.proofs.Finding.{objects_found, puts_set, puts_as, puts_newest, same_origins}
 use Rattle.ibos_store.proofs.Sums.{newest_in-with_newest}

@@ -1,6 +1,6 @@
 use Rattle.std.proofs.Common.{◌≡◌, ◌≢◌, ◌<◌, List, length, Option, None, Some, sym, ◌∙◌, ap, subst, arith}
 use Rattle.std.specs.Option.{option_map}
-use Rattle.ibos_store.specs.Requests.{Requests, without_request}
+use Rattle.ibos_kinds.specs.Requests.{Requests, without_request}
 use Rattle.ibos_store.specs.Stores.{requests_in}
 use Rattle.ibos_store.proofs.Places.{answered_once, held_by, requests_within}
 use Rattle.ibos_store.proofs.table.RequestTable.answer.Goals as goal

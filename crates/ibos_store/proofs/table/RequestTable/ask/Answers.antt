@@ -1,8 +1,9 @@
 use Rattle.std.proofs.Common.{◌≡◌, ◌≢◌, ◌<◌, List, length, Option, None, Some, sym, ◌∙◌, ap, subst, arith}
 use Rattle.std.specs.Prelude.{IfSome, ◌^◌}
 use Rattle.std.specs.Option.{option_map}
-use Rattle.ibos_store.specs.Requests.{Requests, with_ask}
-use Rattle.ibos_store.specs.Answers.{Answers, ask_answer}
+use Rattle.ibos_kinds.specs.Requests.{Requests, with_ask}
+use Rattle.ibos_store.specs.Answers.{Answers}
+use Rattle.ibos_kinds.specs.Labels.{ask_answer}
 use Rattle.ibos_store.specs.Stores.{requests_in}
 use Rattle.ibos_store.proofs.Places.{held_by, requests_within}
 use Rattle.ibos_store.proofs.Putting.{then_ok}

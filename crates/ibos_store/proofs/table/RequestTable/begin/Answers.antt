@@ -1,5 +1,5 @@
 use Rattle.std.proofs.Common.{◌<◌, length, Some, ◌∙◌, ap, arith, vec_len}
-use Rattle.ibos_store.specs.Requests.{Requests}
+use Rattle.ibos_kinds.specs.Requests.{Requests}
 use Rattle.ibos_store.specs.Stores.{requests_in}
 use Rattle.ibos_store.proofs.Places.{requests-set_same, requests-set_other, requests-same}
 use Rattle.ibos_store.proofs.table.RequestTable.begin.Goals as goal

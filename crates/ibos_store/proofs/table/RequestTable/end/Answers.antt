@@ -1,5 +1,5 @@
 use Rattle.std.proofs.Common.{◌≢◌, ◌<◌, List, length, Option, None, sym, ◌∙◌, ap, subst, arith}
-use Rattle.ibos_store.specs.Requests.{Requests}
+use Rattle.ibos_kinds.specs.Requests.{Requests}
 use Rattle.ibos_store.specs.Stores.{requests_in}
 use Rattle.ibos_store.proofs.Places.{requests_within, requests-set_same, requests-set_other}
 use Rattle.ibos_store.proofs.table.RequestTable.end.Goals as goal
