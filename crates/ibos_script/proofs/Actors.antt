@@ -3,13 +3,13 @@ use Rattle.std.proofs.Common.{◌≡◌, ℕ, List, Bool, true, false, Option, S
 use Rattle.std.specs.Prelude.{if◌then◌else◌, option_map, not, nat_lt, ◌||◌, length, codes}
 use Rattle.std.specs.List.{list_all}
 use Rattle.ibos_kinds.specs.declared.act.Act.{Act}
-use Rattle.ibos_kinds.specs.declared.act.Act.TheVariants.{Start, Switch, Close, Press, Click, Look, Go, Draw, CookieSet, CookieGet, Bind, Unbind, Done, RegRead, RegWrite, RxBell, WireIn}
+use Rattle.ibos_kinds.specs.declared.act.Act.TheVariants.{Start, Switch, Close, Press, Click, Look, Go, Draw, CookieSet, CookieGet, Bind, Unbind, Done, RegRead, RegWrite, RxBell, WireIn, Fill, Submit, TxPost, TxBell, WireOut, Put, Ask, StoreAnswer, StoreNone, StoreLose}
 use Rattle.ibos_kinds.specs.declared.names.Instance.{Instance}
 use Rattle.ibos_kinds.specs.declared.names.Proto.TheVariants.{Tcp, Udp}
 use Rattle.ibos_kinds.specs.declared.names.Side.{Side}
 use Rattle.ibos_kinds.specs.declared.names.Side.TheVariants.{Page as PageSide, Net}
 use Rattle.ibos_kinds.specs.declared.party.Party.{Party}
-use Rattle.ibos_kinds.specs.declared.party.Party.TheVariants.{Page, Driver, User, Wire}
+use Rattle.ibos_kinds.specs.declared.party.Party.TheVariants.{Page, Driver, Store, User, Wire}
 use Rattle.ibos_kinds.specs.Parties.{actor}
 use Rattle.ibos_text.specs.Words.{first_word, after_word, has_word, is_word}
 use Rattle.ibos_script.specs.declared.fault.LineFault.{LineFault}
@@ -17,8 +17,8 @@ use Rattle.ibos_script.specs.declared.fault.LineFault.TheVariants.{Long, Byte, W
 use Rattle.ibos_script.specs.declared.lines.Line.{Line}
 use Rattle.ibos_script.specs.declared.lines.Line.TheVariants.{Act as ActLine}
 use Rattle.ibos_script.specs.Fields.{instance_in}
-use Rattle.ibos_script.specs.Forms.{Fields, read_field, nothing, rest, tab, number, flow, name, hex_number, key, hex, form, form_of}
-use Rattle.ibos_script.specs.Lines.{user_in, bell_in, posted, dev_in, wire_in, cookie_in, page_in, flow_in, net_in, named_in, act_in, party_in, is_printable, is_comment, some_line, line_in}
+use Rattle.ibos_script.specs.Forms.{Fields, read_field, nothing, rest, tab, number, flow, buffer, name, hex_number, key, instance, word, hex, form, form_of}
+use Rattle.ibos_script.specs.Lines.{user_in, bell_in, posted, dev_in, wire_in, store_in, cookie_in, page_in, flow_in, net_in, named_in, act_in, party_in, is_printable, is_comment, some_line, line_in}
 
 abbrev IsActorOf : Option Party → Result Line LineFault → Type 0
 IsActorOf p (Ok (ActLine act)) = p ≡ Some (actor act)
@@ -72,7 +72,8 @@ bell_by : (ring line : List ℕ) → By (Some Driver) (bell_in ring line)
 unfolding bell_in
 bell_by ring line =
     let p : Option Party = Some Driver in
-    either p _ _ _ (form_by p nothing RxBell line (act_by p _ refl)) (none_by p Word)
+    either p _ _ _ (form_by p nothing RxBell line (act_by p _ refl))
+    (either p _ _ _ (form_by p nothing TxBell line (act_by p _ refl)) (none_by p Word))
 
 dev_by : (command line : List ℕ) → By (Some Driver) (dev_in command line)
 unfolding dev_in
@@ -81,13 +82,23 @@ dev_by command line =
     either p _ _ _ (form_by p (hex_number nothing) RegRead line (field_by p _ _ _ (λ n. act_by p _ refl)))
     (either p _ _ _ (form_by p (hex_number (hex_number nothing)) RegWrite line (search (field_by, act_by)))
     (either p _ _ _ (form_by p (number (name (number nothing))) posted line (search (field_by, act_by)))
-    (either p _ _ _ (bell_by (first_word line) (after_word line)) (none_by p Word))))
+    (either p _ _ _ (form_by p (number (number nothing)) TxPost line (search (field_by, act_by)))
+    (either p _ _ _ (bell_by (first_word line) (after_word line)) (none_by p Word)))))
 
 wire_by : (command line : List ℕ) → By (Some Wire) (wire_in command line)
 unfolding wire_in
 wire_by command line =
     let p : Option Party = Some Wire in
-    either p _ _ _ (form_by p (hex nothing) WireIn line (field_by p _ _ _ (λ w. act_by p _ refl))) (none_by p Word)
+    either p _ _ _ (form_by p (hex nothing) WireIn line (field_by p _ _ _ (λ w. act_by p _ refl)))
+    (either p _ _ _ (form_by p nothing WireOut line (act_by p _ refl)) (none_by p Word))
+
+store_by : (command line : List ℕ) → By (Some Store) (store_in command line)
+unfolding store_in
+store_by command line =
+    let p : Option Party = Some Store in
+    either p _ _ _ (form_by p (instance (number (word (word (number nothing))))) StoreAnswer line (search (field_by, act_by) depth 12))
+    (either p _ _ _ (form_by p (instance (number nothing)) StoreNone line (search (field_by, act_by)))
+    (either p _ _ _ (form_by p (word (word (number nothing))) StoreLose line (field_by p _ _ _ (λ n. act_by p _ refl))) (none_by p Word)))
 
 cookie_by : (side : Side) (who command line : List ℕ) → By (named who) (cookie_in side who command line)
 unfolding cookie_in
@@ -103,7 +114,9 @@ page_by who command line =
     either p _ _ _ (form_of_by rest Go who line (λ q is. act_by p _ is))
     (either p _ _ _ (form_of_by (number (number (number (number (hex nothing))))) Draw who line
     (λ q is. search (field_by, act_by, is) depth 12))
-    (either p _ _ _ (cookie_by PageSide who (first_word line) (after_word line)) (none_by p Word)))
+    (either p _ _ _ (cookie_by PageSide who (first_word line) (after_word line))
+    (either p _ _ _ (form_of_by (word (hex nothing)) Put who line (λ q is. field_by p _ _ _ (λ bytes. act_by p _ is)))
+    (either p _ _ _ (form_of_by (word nothing) Ask who line (λ q is. act_by p _ is)) (none_by p Word)))))
 
 flow_by : (who proto line : List ℕ) → By (named who) (flow_in who proto line)
 unfolding flow_in
@@ -119,20 +132,23 @@ net_by who command line =
     either p _ _ _ (flow_by who (first_word line) (after_word line))
     (either p _ _ _ (form_of_by (flow nothing) Unbind who line (λ q is. field_by p _ _ _ (λ n. act_by p _ is)))
     (either p _ _ _ (form_of_by nothing Done who line (λ q is. act_by p _ is))
-    (either p _ _ _ (cookie_by Net who (first_word line) (after_word line)) (none_by p Word))))
+    (either p _ _ _ (cookie_by Net who (first_word line) (after_word line))
+    (either p _ _ _ (form_of_by (buffer (number (hex nothing))) Fill who line (λ q is. search (field_by, act_by, is) depth 12))
+    (either p _ _ _ (form_of_by (buffer (number nothing)) Submit who line (λ q is. search (field_by, act_by, is) depth 12)) (none_by p Word))))))
 
-words_by : (actor line : List ℕ) → By (if is_word (codes "user") actor then Some User else if is_word (codes "dev") actor then Some Driver else if is_word (codes "wire") actor then Some Wire else if is_word (codes "page") actor || is_word (codes "net") actor then named (first_word line) else None) (act_in actor line)
+words_by : (actor line : List ℕ) → By (if is_word (codes "user") actor then Some User else if is_word (codes "dev") actor then Some Driver else if is_word (codes "wire") actor then Some Wire else if is_word (codes "store") actor then Some Store else if is_word (codes "page") actor || is_word (codes "net") actor then named (first_word line) else None) (act_in actor line)
 unfolding act_in
-words_by actor line = by_actor (is_word (codes "user") actor) (is_word (codes "dev") actor) (is_word (codes "wire") actor) (is_word (codes "page") actor) (is_word (codes "net") actor)
+words_by actor line = by_actor (is_word (codes "user") actor) (is_word (codes "dev") actor) (is_word (codes "wire") actor) (is_word (codes "store") actor) (is_word (codes "page") actor) (is_word (codes "net") actor)
   where
-    by_actor : (user dev wire page net : Bool) → By (if user then Some User else if dev then Some Driver else if wire then Some Wire else if page || net then named (first_word line) else None)
-        (if user then user_in (first_word line) (after_word line) else if dev then dev_in (first_word line) (after_word line) else if wire then wire_in (first_word line) (after_word line) else if page then named_in page_in line else if net then named_in net_in line else Err Word)
-    by_actor true dev wire page net = user_by (first_word line) (after_word line)
-    by_actor false true wire page net = dev_by (first_word line) (after_word line)
-    by_actor false false true page net = wire_by (first_word line) (after_word line)
-    by_actor false false false true net = page_by (first_word line) (first_word (after_word line)) (after_word (after_word line))
-    by_actor false false false false true = net_by (first_word line) (first_word (after_word line)) (after_word (after_word line))
-    by_actor false false false false false = none_by None Word
+    by_actor : (user dev wire store page net : Bool) → By (if user then Some User else if dev then Some Driver else if wire then Some Wire else if store then Some Store else if page || net then named (first_word line) else None)
+        (if user then user_in (first_word line) (after_word line) else if dev then dev_in (first_word line) (after_word line) else if wire then wire_in (first_word line) (after_word line) else if store then store_in (first_word line) (after_word line) else if page then named_in page_in line else if net then named_in net_in line else Err Word)
+    by_actor true dev wire store page net = user_by (first_word line) (after_word line)
+    by_actor false true wire store page net = dev_by (first_word line) (after_word line)
+    by_actor false false true store page net = wire_by (first_word line) (after_word line)
+    by_actor false false false true page net = store_by (first_word line) (after_word line)
+    by_actor false false false false true net = page_by (first_word line) (first_word (after_word line)) (after_word (after_word line))
+    by_actor false false false false false true = net_by (first_word line) (first_word (after_word line)) (after_word (after_word line))
+    by_actor false false false false false false = none_by None Word
 
 abbrev LineBy : Option Party → Result (Option Line) LineFault → Type 0
 LineBy p (Ok (Some line)) = IsActorOf p (Ok line)

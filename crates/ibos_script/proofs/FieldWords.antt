@@ -18,8 +18,8 @@ use Rattle.ibos_kinds.specs.Limits.{IsKey, IsNamed}
 use Rattle.ibos_text.specs.Parts.{len_before}
 use Rattle.ibos_script.specs.Fields.{is_digit, value_of, number_in, instance_parted, instance_in, key_in, hex_in}
 use Rattle.ibos_script.specs.Printed.{instance_text, or_dash, hex_text}
-use Rattle.ibos_script.specs.Spelled.{key_text}
-use Rattle.ibos_script.proofs.Words.{IsWord, is_graph, all_weaker, len_before-front}
+use Rattle.ibos_script.specs.Spelled.{key_text, is_graph, IsWord}
+use Rattle.ibos_script.proofs.Words.{all_weaker, len_before-front}
 
 -- ---- numbers
 

@@ -11,8 +11,7 @@ use Rattle.hex.specs.Hex.{encode_lower, encode_with, lower_digits}
 use Rattle.hex.proofs.HexLemmas.{length-encode_with}
 use Rattle.ibos_script.specs.Fields.{hex_digits_in, hex_number_in}
 use Rattle.ibos_script.specs.Printed.{value_text}
-use Rattle.ibos_script.specs.Spelled.{hex_number_text}
-use Rattle.ibos_script.proofs.Words.{IsWord, is_graph}
+use Rattle.ibos_script.specs.Spelled.{hex_number_text, is_graph, IsWord}
 
 -- ---- one digit
 

@@ -1,5 +1,6 @@
 mod CutTexts
 mod ToldLines
+mod HexTexts
 mod Actors
 mod Words
 mod FieldWords

@@ -5,8 +5,9 @@ use Rattle.std.specs.List.{list_all}
 use Rattle.std.proofs.lemmas.Bool.Decides.{nat_tests}
 use Rattle.std.proofs.lemmas.List.{append-nil}
 use Rattle.std.proofs.lemmas.List.Folds.{list_all-append}
+use Rattle.hex.specs.Hex.{IsBytes}
 use Rattle.ibos_kinds.specs.declared.act.Act.{Act}
-use Rattle.ibos_kinds.specs.declared.act.Act.TheVariants.{Start, Switch, Close, Press, Click, Look, Go, Draw, CookieSet, CookieGet, Bind, Unbind, Done, RegRead, RegWrite, RxPost, RxBell, WireIn}
+use Rattle.ibos_kinds.specs.declared.act.Act.TheVariants.{Start, Switch, Close, Press, Click, Look, Go, Draw, CookieSet, CookieGet, Bind, Unbind, Done, RegRead, RegWrite, RxPost, RxBell, WireIn, Fill, Submit, TxPost, TxBell, WireOut, Put, Ask, StoreAnswer, StoreNone, StoreLose}
 use Rattle.ibos_kinds.specs.declared.names.Instance.{Instance}
 use Rattle.ibos_kinds.specs.declared.names.Proto.TheVariants.{Tcp, Udp}
 use Rattle.ibos_kinds.specs.declared.names.Side.{Side}
@@ -18,12 +19,12 @@ use Rattle.ibos_script.specs.declared.fault.LineFault.{LineFault}
 use Rattle.ibos_script.specs.declared.fault.LineFault.TheVariants.{Long, Byte, Number, Hex}
 use Rattle.ibos_script.specs.declared.lines.Line.{Line}
 use Rattle.ibos_script.specs.declared.lines.Line.TheVariants.{Act as ActLine}
-use Rattle.ibos_script.specs.Fields.{number_in, hex_number_in, key_in, hex_in}
-use Rattle.ibos_script.specs.Forms.{Fields, nothing, rest, field, tab, number, flow, name, hex_number, key, hex, form, form_of}
-use Rattle.ibos_script.specs.Lines.{user_in, dev_in, bell_in, posted, wire_in, cookie_in, page_in, flow_in, net_in, act_in, is_printable, is_comment, some_line, line_in}
+use Rattle.ibos_script.specs.Fields.{number_in, hex_number_in, instance_in, key_in, hex_in}
+use Rattle.ibos_script.specs.Forms.{Fields, nothing, rest, field, tab, number, flow, buffer, name, hex_number, key, instance, word, hex, form, form_of}
+use Rattle.ibos_script.specs.Lines.{user_in, dev_in, bell_in, posted, wire_in, store_in, cookie_in, page_in, flow_in, net_in, act_in, is_printable, is_comment, some_line, line_in}
 use Rattle.ibos_script.specs.Printed.{instance_text, hex_text}
-use Rattle.ibos_script.specs.Spelled.{key_text, side_text, hex_number_text, spelled, IsRest, IsSpellable}
-use Rattle.ibos_script.proofs.Words.{IsWord, is_graph, first_is, after_is, has_is, first_spaced, after_spaced, has_spaced, has_none, word_printable, spaced_printable}
+use Rattle.ibos_script.specs.Spelled.{key_text, side_text, hex_number_text, spelled, IsRest, is_graph, IsWord, IsSpellable}
+use Rattle.ibos_script.proofs.Words.{first_is, after_is, has_is, first_spaced, after_spaced, has_spaced, has_none, word_printable, spaced_printable}
 use Rattle.ibos_script.proofs.FieldWords.{number_word, number_read, instance_word, instance_read, hex_word, hex_read, key_word, key_read}
 use Rattle.ibos_script.proofs.HexNumbers.{hex_number_word, hex_number_read}
 
@@ -73,6 +74,21 @@ hex_number_says more act n tail said small = field_says Number hex_number_in mor
 name_says : {A : Type 0} (more : Fields A) (act : ℕ → A) (n : ℕ) (tail : List ℕ) (said : Act) → n < 256 → Says more (act n) tail said → Says (name more) act (32 ∷ (decimal n ++ tail)) said
 name_says more act n tail said small = field_says Number (number_in 256) more act (decimal n) tail n said (number_word n (omega (arith, small))) (number_read 256 n small (omega arith))
 
+buffer_says : {A : Type 0} (more : Fields A) (act : ℕ → A) (n : ℕ) (tail : List ℕ) (said : Act) → n < 4 → Says more (act n) tail said → Says (buffer more) act (32 ∷ (decimal n ++ tail)) said
+buffer_says more act n tail said small = field_says Number (number_in 4) more act (decimal n) tail n said (number_word n (omega (arith, small))) (number_read 4 n small (omega arith))
+
+instance_says : {A : Type 0} (more : Fields A) (act : Instance → A) (who : Instance) (tail : List ℕ) (said : Act) → IsNamed who → Says more (act who) tail said → Says (instance more) act (32 ∷ (instance_text who ++ tail)) said
+instance_says more act who tail said named = field_says Number instance_in more act (instance_text who) tail who said (instance_word who named) (instance_read who named)
+
+word_says : {A : Type 0} (more : Fields A) (act : List ℕ → A) (text : List ℕ) (tail : List ℕ) (said : Act) → IsWord text → Says more (act text) tail said → Says (word more) act (32 ∷ (text ++ tail)) said
+word_says more act text tail said is = field_says Number Some more act text tail text said is refl
+
+last_number : (act : ℕ → Act) (n : ℕ) → n < 2 ^ 32 → Says (number nothing) act (32 ∷ decimal n) (act n)
+last_number act n small = last_says Number (number_in 4294967296) act (decimal n) n (number_word n small) (number_read 4294967296 n small (omega arith))
+
+last_hex : (act : List ℕ → Act) (bytes : List ℕ) → IsBytes bytes → Says (hex nothing) act (32 ∷ hex_text bytes) (act bytes)
+last_hex act bytes small = last_says Hex hex_in act (hex_text bytes) bytes (hex_word bytes small) (hex_read bytes small)
+
 form_says : {A : Type 0} (fields : Fields A) (act : A) (line : List ℕ) (said : Act) → Says fields act line said → form fields act line ≡ Ok (ActLine said)
 form_says fields act line said says = rw says.counted says.read
 
@@ -90,27 +106,32 @@ data Lone : Type 0 where
   AsUser : Lone
   AsDriver : Lone
   AsWire : Lone
+  AsStore : Lone
 
 abbrev lone_text : Lone → List ℕ
 lone_text AsUser = codes "user"
 lone_text AsDriver = codes "dev"
 lone_text AsWire = codes "wire"
+lone_text AsStore = codes "store"
 
 abbrev lone_in : Lone → List ℕ → List ℕ → Result Line LineFault
 lone_in AsUser = user_in
 lone_in AsDriver = dev_in
 lone_in AsWire = wire_in
+lone_in AsStore = store_in
 
 lone_word : (lone : Lone) → IsWord (lone_text lone)
 lone_word AsUser = literal (codes "user") refl (omega arith)
 lone_word AsDriver = literal (codes "dev") refl (omega arith)
 lone_word AsWire = literal (codes "wire") refl (omega arith)
+lone_word AsStore = literal (codes "store") refl (omega arith)
 
 lone_starts : (lone : Lone) (line : List ℕ) → act_in (lone_text lone) line ≡ lone_in lone (first_word line) (after_word line)
 unfolding act_in
 lone_starts AsUser line = refl
 lone_starts AsDriver line = refl
 lone_starts AsWire line = refl
+lone_starts AsStore line = refl
 
 lone_says : (lone : Lone) (command tail : List ℕ) (said : Act) → IsWord command → len_before 32 tail ≡ 0 → lone_in lone command tail ≡ Ok (ActLine said)
     → act_in (first_word (lone_text lone ++ 32 ∷ (command ++ tail))) (after_word (lone_text lone ++ 32 ∷ (command ++ tail))) ≡ Ok (ActLine said)
@@ -178,6 +199,7 @@ lone_line fields act lone command tail said is says forms short =
     plain AsUser = refl
     plain AsDriver = refl
     plain AsWire = refl
+    plain AsStore = refl
 
 side_plain : (side : Side) → is_comment (side_text side) ≡ false
 side_plain Page = refl
@@ -249,7 +271,7 @@ bell_line act ring is forms short =
 -- ---- acts
 
 pub spelled_reads : (act : Act) → Fits act → IsSpellable act → length (spelled act) ≤ 8192 → line_in (spelled act) ≡ Ok (Some (ActLine act))
-unfolding user_in dev_in bell_in wire_in side_in page_in net_in flow_in cookie_in
+unfolding user_in dev_in bell_in wire_in store_in side_in page_in net_in flow_in cookie_in
 spelled_reads (Start n url) fits is short =
     lone_line (tab rest) Start AsUser (codes "open") _ _ (literal _ refl (omega arith)) (tab_says rest Start n (32 ∷ url) (Start n url) fits (rest_says (Start n) url is)) refl short
 spelled_reads (Switch n) fits is short =
@@ -300,3 +322,36 @@ spelled_reads (RxPost slot handle) fits is short =
 spelled_reads RxBell fits is short = bell_line RxBell (codes "rx") (literal _ refl (omega arith)) refl short
 spelled_reads (WireIn frame) fits is short =
     lone_line (hex nothing) WireIn AsWire (codes "in") _ _ (literal _ refl (omega arith)) (last_says Hex hex_in WireIn (hex_text frame) frame (hex_word frame is) (hex_read frame is)) refl short
+spelled_reads (Fill who n place bytes) fits is short =
+    let said = Fill who n place bytes in
+    side_line (buffer (number (hex nothing))) Fill Net who (codes "fill") _ _ fits.0 (literal _ refl (omega arith))
+    (buffer_says (number (hex nothing)) (Fill who) n _ said fits.1
+    (number_says (hex nothing) (Fill who n) place _ said is.0 (last_hex (Fill who n place) bytes is.1))) refl short
+spelled_reads (Submit who n len) fits is short =
+    side_line (buffer (number nothing)) Submit Net who (codes "submit") _ _ fits.0 (literal _ refl (omega arith))
+    (buffer_says (number nothing) (Submit who) n _ (Submit who n len) fits.1 (last_number (Submit who n) len is)) refl short
+spelled_reads (TxPost slot send) fits is short =
+    lone_line (number (number nothing)) TxPost AsDriver (codes "tx") _ _ (literal _ refl (omega arith))
+    (number_says (number nothing) TxPost slot _ (TxPost slot send) is.0 (last_number (TxPost slot) send is.1)) refl short
+spelled_reads TxBell fits is short = bell_line TxBell (codes "tx") (literal _ refl (omega arith)) refl short
+spelled_reads WireOut fits is short = lone_line nothing WireOut AsWire (codes "out") [] WireOut (literal _ refl (omega arith)) (nothing_says WireOut) refl short
+spelled_reads (Put who label bytes) fits is short =
+    side_line (word (hex nothing)) Put Page who (codes "put") _ _ fits (literal _ refl (omega arith))
+    (word_says (hex nothing) (Put who) label _ (Put who label bytes) is.0 (last_hex (Put who label) bytes is.1)) refl short
+spelled_reads (Ask who label) fits is short =
+    side_line (word nothing) Ask Page who (codes "ask") _ _ fits (literal _ refl (omega arith)) (last_says Number Some (Ask who) label label is refl) refl short
+spelled_reads (StoreAnswer who request origin label version) fits is short =
+    let said = StoreAnswer who request origin label version in
+    lone_line (instance (number (word (word (number nothing))))) StoreAnswer AsStore (codes "answer") _ _ (literal _ refl (omega arith))
+    (instance_says (number (word (word (number nothing)))) StoreAnswer who _ said fits
+    (number_says (word (word (number nothing))) (StoreAnswer who) request _ said is.0
+    (word_says (word (number nothing)) (StoreAnswer who request) origin _ said is.1
+    (word_says (number nothing) (StoreAnswer who request origin) label _ said is.2 (last_number (StoreAnswer who request origin label) version is.3))))) refl short
+spelled_reads (StoreNone who request) fits is short =
+    lone_line (instance (number nothing)) StoreNone AsStore (codes "none") _ _ (literal _ refl (omega arith))
+    (instance_says (number nothing) StoreNone who _ (StoreNone who request) fits (last_number (StoreNone who) request is)) refl short
+spelled_reads (StoreLose origin label version) fits is short =
+    let said = StoreLose origin label version in
+    lone_line (word (word (number nothing))) StoreLose AsStore (codes "lose") _ _ (literal _ refl (omega arith))
+    (word_says (word (number nothing)) StoreLose origin _ said is.0
+    (word_says (number nothing) (StoreLose origin) label _ said is.1 (last_number (StoreLose origin label) version is.2))) refl short

@@ -1,6 +1,6 @@
 -- Lines that are spelled, word by word.
-use Rattle.std.proofs.Common.{◌≡◌, ℕ, ◌+◌, ◌<◌, List, [], ◌∷◌, ◌++◌, Bool, true, false, not, cond, length, take, drop, refl, ◌∙◌, ap, arith}
-use Rattle.std.specs.Prelude.{◌==◌, ◌&&◌, nat_le}
+use Rattle.std.proofs.Common.{◌≡◌, ℕ, ◌+◌, List, [], ◌∷◌, ◌++◌, Bool, true, false, not, cond, length, take, drop, refl, ◌∙◌, ap, arith}
+use Rattle.std.specs.Prelude.{◌==◌, ◌&&◌}
 use Rattle.std.specs.List.{list_all}
 use Rattle.std.proofs.Math.Seq.{take-append_seam, drop-append_seam}
 use Rattle.std.proofs.lemmas.Bool.{cond-false}
@@ -9,14 +9,7 @@ use Rattle.std.proofs.lemmas.List.Folds.{list_all-append}
 use Rattle.ibos_text.specs.Parts.{len_before}
 use Rattle.ibos_text.specs.Words.{after_spaces, first_word, after_word, has_word}
 use Rattle.ibos_script.specs.Lines.{is_printable}
-
--- printable, and no space
-abbrev pub is_graph : ℕ → Bool
-is_graph b = nat_le 33 b && nat_le b 126
-
-pub record IsWord (word : List ℕ) : Type 0 where
-  pub graph : list_all is_graph word ≡ true
-  pub some : 0 < length word
+use Rattle.ibos_script.specs.Spelled.{is_graph, IsWord}
 
 first_of : (first rest : Bool) → (first && rest) ≡ true → (first ≡ true) × (rest ≡ true)
 first_of true rest h = (refl, h)

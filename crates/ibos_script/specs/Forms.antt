@@ -53,6 +53,10 @@ number = field Number (number_in 4294967296)
 abbrev pub flow : {A : Type 0} → Fields A → Fields (ℕ → A)
 flow = field Number (number_in 16)
 
+-- a transmit buffer of an instance
+abbrev pub buffer : {A : Type 0} → Fields A → Fields (ℕ → A)
+buffer = field Number (number_in 4)
+
 -- the name of a receive buffer
 abbrev pub name : {A : Type 0} → Fields A → Fields (ℕ → A)
 name = field Number (number_in 256)
@@ -63,6 +67,14 @@ hex_number = field Number hex_number_in
 
 abbrev pub key : {A : Type 0} → Fields A → Fields (Key → A)
 key = field Number key_in
+
+-- an instance that isn't the actor
+abbrev pub instance : {A : Type 0} → Fields A → Fields (Instance → A)
+instance = field Number instance_in
+
+-- one word as it stands, which is never at fault
+abbrev pub word : {A : Type 0} → Fields A → Fields (List ℕ → A)
+word = field Number Some
 
 -- bytes in hexadecimal digits
 abbrev pub hex : {A : Type 0} → Fields A → Fields (List ℕ → A)

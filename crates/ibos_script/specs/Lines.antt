@@ -9,12 +9,15 @@ use Rattle.ibos_kinds.specs.declared.names.Side.{Side}
 use Rattle.ibos_kinds.specs.declared.names.Side.TheVariants.{Page, Net}
 use Rattle.ibos_kinds.specs.declared.party.Party.{Party}
 use Rattle.ibos_kinds.specs.declared.party.Party.TheVariants.{Page as PageParty, Driver}
-use Rattle.ibos_kinds.specs.declared.party.Party.TheVariants.{User, Wire}
+use Rattle.ibos_kinds.specs.declared.party.Party.TheVariants.{Store, User, Wire}
 use Rattle.ibos_kinds.specs.declared.act.Act.{Act}
 use Rattle.ibos_kinds.specs.declared.act.Act.TheVariants.{Start, Switch, Close, Press, Click, Look}
 use Rattle.ibos_kinds.specs.declared.act.Act.TheVariants.{Go, Draw, CookieSet, CookieGet}
 use Rattle.ibos_kinds.specs.declared.act.Act.TheVariants.{Bind, Unbind, Done, RegRead, RegWrite}
 use Rattle.ibos_kinds.specs.declared.act.Act.TheVariants.{RxPost, RxBell, WireIn}
+use Rattle.ibos_kinds.specs.declared.act.Act.TheVariants.{Fill, Submit, TxPost, TxBell, WireOut}
+use Rattle.ibos_kinds.specs.declared.act.Act.TheVariants.{Put, Ask, StoreAnswer, StoreNone}
+use Rattle.ibos_kinds.specs.declared.act.Act.TheVariants.{StoreLose}
 use Rattle.ibos_kinds.specs.Limits.{Fits}
 use Rattle.ibos_script.specs.declared.fault.LineFault.{LineFault}
 use Rattle.ibos_script.specs.declared.fault.LineFault.TheVariants.{Long, Byte, Word}
@@ -22,8 +25,8 @@ use Rattle.ibos_script.specs.declared.lines.Line.{Line}
 use Rattle.ibos_script.specs.declared.lines.Line.TheVariants.{Act as ActLine}
 use Rattle.ibos_text.specs.Words.{first_word, after_word, has_word, is_word}
 use Rattle.ibos_script.specs.Fields.{instance_in}
-use Rattle.ibos_script.specs.Forms.{nothing, rest, tab, number, flow, name, hex_number, key, hex}
-use Rattle.ibos_script.specs.Forms.{form, form_of}
+use Rattle.ibos_script.specs.Forms.{nothing, rest, tab, number, flow, buffer, name, hex_number}
+use Rattle.ibos_script.specs.Forms.{key, instance, word, hex, form, form_of}
 
 -- the act that a line says is in its ranges
 abbrev pub LineFits : Line → Type 0
@@ -44,6 +47,7 @@ user_in command line =
 unfoldable pub bell_in : List ℕ → List ℕ → Result Line LineFault
 bell_in ring line =
     if is_word (codes "rx") ring then form nothing RxBell line
+    else if is_word (codes "tx") ring then form nothing TxBell line
     else Err Word
 
 -- a receive buffer's post, its handle in two fields
@@ -57,6 +61,7 @@ dev_in command line =
     else if is_word (codes "write") command
     then form (hex_number (hex_number nothing)) RegWrite line
     else if is_word (codes "rx") command then form (number (name (number nothing))) posted line
+    else if is_word (codes "tx") command then form (number (number nothing)) TxPost line
     else if is_word (codes "bell") command then bell_in (first_word line) (after_word line)
     else Err Word
 
@@ -64,6 +69,17 @@ dev_in command line =
 unfoldable pub wire_in : List ℕ → List ℕ → Result Line LineFault
 wire_in command line =
     if is_word (codes "in") command then form (hex nothing) WireIn line
+    else if is_word (codes "out") command then form nothing WireOut line
+    else Err Word
+
+-- behind `store`
+unfoldable pub store_in : List ℕ → List ℕ → Result Line LineFault
+store_in command line =
+    if is_word (codes "answer") command
+    then form (instance (number (word (word (number nothing))))) StoreAnswer line
+    else if is_word (codes "none") command then form (instance (number nothing)) StoreNone line
+    else if is_word (codes "lose") command
+    then form (word (word (number nothing))) StoreLose line
     else Err Word
 
 -- behind `page` or `net` and an instance's name: `cookie`
@@ -81,6 +97,8 @@ page_in who command line =
     then form_of (number (number (number (number (hex nothing))))) Draw who line
     else if is_word (codes "cookie") command
     then cookie_in Page who (first_word line) (after_word line)
+    else if is_word (codes "put") command then form_of (word (hex nothing)) Put who line
+    else if is_word (codes "ask") command then form_of (word nothing) Ask who line
     else Err Word
 
 -- behind `net` and an instance's name: `flow`
@@ -98,6 +116,10 @@ net_in who command line =
     else if is_word (codes "done") command then form_of nothing Done who line
     else if is_word (codes "cookie") command
     then cookie_in Net who (first_word line) (after_word line)
+    else if is_word (codes "fill") command
+    then form_of (buffer (number (hex nothing))) Fill who line
+    else if is_word (codes "submit") command
+    then form_of (buffer (number nothing)) Submit who line
     else Err Word
 
 -- behind an actor's kind and name
@@ -112,17 +134,19 @@ act_in actor line =
     if is_word (codes "user") actor then user_in (first_word line) (after_word line)
     else if is_word (codes "dev") actor then dev_in (first_word line) (after_word line)
     else if is_word (codes "wire") actor then wire_in (first_word line) (after_word line)
+    else if is_word (codes "store") actor then store_in (first_word line) (after_word line)
     else if is_word (codes "page") actor then named_in page_in line
     else if is_word (codes "net") actor then named_in net_in line
     else Err Word
 
--- the party that the first words of a line name: `user`, `dev` or `wire`, or `page` or `net` and an
--- instance
+-- the party that the first words of a line name: `user`, `dev`, `wire` or `store`, or `page` or
+-- `net` and an instance
 unfoldable pub party_in : List ℕ → Option Party
 party_in line =
     if is_word (codes "user") (first_word line) then Some User
     else if is_word (codes "dev") (first_word line) then Some Driver
     else if is_word (codes "wire") (first_word line) then Some Wire
+    else if is_word (codes "store") (first_word line) then Some Store
     else if is_word (codes "page") (first_word line) || is_word (codes "net") (first_word line)
     then option_map PageParty (instance_in (first_word (after_word line)))
     else None

@@ -13,7 +13,10 @@ use Rattle.ibos_kinds.specs.declared.outcome.Item.{Item}
 use Rattle.ibos_kinds.specs.declared.outcome.Item.TheVariants.{Opened, Moved, Ended, KeyTo, ClickTo}
 use Rattle.ibos_kinds.specs.declared.outcome.Item.TheVariants.{Cookies, RowIs, FlowIs}
 use Rattle.ibos_kinds.specs.declared.outcome.Item.TheVariants.{Arrived, ValueIs, LentIs, VerdictIs}
-use Rattle.ibos_kinds.specs.declared.outcome.Item.TheVariants.{Dropped}
+use Rattle.ibos_kinds.specs.declared.outcome.Item.TheVariants.{Dropped, Home, SendIs, Returned}
+use Rattle.ibos_kinds.specs.declared.outcome.Item.TheVariants.{SentIs, Idle, Accepted, VersionIs}
+use Rattle.ibos_kinds.specs.declared.outcome.Item.TheVariants.{RequestIs, Object, NoObject}
+use Rattle.ibos_kinds.specs.declared.outcome.Item.TheVariants.{StorePut, StoreAsk}
 use Rattle.ibos_kinds.specs.declared.outcome.Outcome.{Outcome}
 use Rattle.ibos_kinds.specs.declared.party.Party.{Party}
 use Rattle.ibos_kinds.specs.declared.party.Party.TheVariants.{Page, Driver, Store, User, Wire, Log}
@@ -82,6 +85,22 @@ told_text (LentIs handle) = codes " lent " ++ decimal handle.name ++ codes " "
     ++ decimal handle.turn
 told_text (VerdictIs verdict) = codes " " ++ verdict_text verdict
 told_text (Dropped rule) = codes " drop " ++ code_of rule ++ codes " " ++ name_of rule
+told_text (Home who buffer) = codes " home " ++ decimal buffer
+told_text (SendIs send) = codes " send " ++ decimal send
+told_text (Returned send) = codes " returned " ++ decimal send
+told_text (SentIs send) = codes " sent " ++ decimal send
+told_text Idle = codes " idle"
+told_text (Accepted send who bytes) = codes " frame " ++ decimal send ++ codes " "
+    ++ instance_text who ++ codes " " ++ hex_text bytes
+told_text (VersionIs who version) = codes " version " ++ decimal version
+told_text (RequestIs who request) = codes " request " ++ decimal request
+told_text (Object who request version bytes) = codes " object " ++ decimal request ++ codes " "
+    ++ decimal version ++ codes " " ++ hex_text bytes
+told_text (NoObject who request) = codes " none " ++ decimal request
+told_text (StorePut origin key version len) = codes " put " ++ origin ++ codes " " ++ key
+    ++ codes " " ++ decimal version ++ codes " " ++ decimal len
+told_text (StoreAsk who request origin key) = codes " ask " ++ instance_text who ++ codes " "
+    ++ decimal request ++ codes " " ++ origin ++ codes " " ++ key
 
 -- whom an item is for, and what it tells
 unfoldable pub item_text : Item → List ℕ

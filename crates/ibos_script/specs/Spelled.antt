@@ -1,5 +1,6 @@
 -- How an act is written as a line, word by word. Reading it gives the act back.
-use Rattle.std.specs.Prelude.{◌≡◌, ℕ, ◌^◌, ◌<◌, List, [], ◌∷◌, ◌++◌, true, codes, decimal}
+use Rattle.std.specs.Prelude.{◌≡◌, ℕ, ◌^◌, ◌<◌, List, [], ◌∷◌, ◌++◌, Bool, true, ◌&&◌}
+use Rattle.std.specs.Prelude.{nat_le, length, codes, decimal}
 use Rattle.std.specs.List.{list_all}
 use Rattle.hex.specs.Hex.{IsBytes, encode_lower}
 use Rattle.ibos_kinds.specs.declared.act.Act.{Act}
@@ -7,6 +8,9 @@ use Rattle.ibos_kinds.specs.declared.act.Act.TheVariants.{Start, Switch, Close, 
 use Rattle.ibos_kinds.specs.declared.act.Act.TheVariants.{Go, Draw, CookieSet, CookieGet}
 use Rattle.ibos_kinds.specs.declared.act.Act.TheVariants.{Bind, Unbind, Done, RegRead, RegWrite}
 use Rattle.ibos_kinds.specs.declared.act.Act.TheVariants.{RxPost, RxBell, WireIn}
+use Rattle.ibos_kinds.specs.declared.act.Act.TheVariants.{Fill, Submit, TxPost, TxBell, WireOut}
+use Rattle.ibos_kinds.specs.declared.act.Act.TheVariants.{Put, Ask, StoreAnswer, StoreNone}
+use Rattle.ibos_kinds.specs.declared.act.Act.TheVariants.{StoreLose}
 use Rattle.ibos_kinds.specs.declared.names.Key.{Key}
 use Rattle.ibos_kinds.specs.declared.names.Key.TheVariants.{Byte, Enter, Back}
 use Rattle.ibos_kinds.specs.declared.names.Proto.{Proto}
@@ -66,10 +70,35 @@ spelled (RxPost slot handle) = spaced (codes "dev" ∷ codes "rx" ∷ decimal sl
     ∷ decimal handle.name ∷ []) (decimal handle.turn)
 spelled RxBell = spaced (codes "dev" ∷ codes "bell" ∷ []) (codes "rx")
 spelled (WireIn frame) = spaced (codes "wire" ∷ codes "in" ∷ []) (hex_text frame)
+spelled (Fill who buffer place bytes) = spaced (codes "net" ∷ instance_text who ∷ codes "fill"
+    ∷ decimal buffer ∷ decimal place ∷ []) (hex_text bytes)
+spelled (Submit who buffer len) = spaced (codes "net" ∷ instance_text who ∷ codes "submit"
+    ∷ decimal buffer ∷ []) (decimal len)
+spelled (TxPost slot send) = spaced (codes "dev" ∷ codes "tx" ∷ decimal slot ∷ []) (decimal send)
+spelled TxBell = spaced (codes "dev" ∷ codes "bell" ∷ []) (codes "tx")
+spelled WireOut = spaced (codes "wire" ∷ []) (codes "out")
+spelled (Put who key bytes) = spaced (codes "page" ∷ instance_text who ∷ codes "put" ∷ key ∷ [])
+    (hex_text bytes)
+spelled (Ask who key) = spaced (codes "page" ∷ instance_text who ∷ codes "ask" ∷ []) key
+spelled (StoreAnswer who request origin key version) = spaced (codes "store" ∷ codes "answer"
+    ∷ instance_text who ∷ decimal request ∷ origin ∷ key ∷ []) (decimal version)
+spelled (StoreNone who request) = spaced (codes "store" ∷ codes "none" ∷ instance_text who ∷ [])
+    (decimal request)
+spelled (StoreLose origin key version) = spaced (codes "store" ∷ codes "lose" ∷ origin ∷ key ∷ [])
+    (decimal version)
 
 -- the rest of a line: printable, and no space first
 abbrev pub IsRest : List ℕ → Type 0
 IsRest text = (list_all is_printable text ≡ true) × (after_spaces text ≡ text)
+
+-- printable, and no space
+abbrev pub is_graph : ℕ → Bool
+is_graph b = nat_le 33 b && nat_le b 126
+
+-- one word of a line
+pub record IsWord (word : List ℕ) : Type 0 where
+  pub graph : list_all is_graph word ≡ true
+  pub some : 0 < length word
 
 -- the fields have the values of their types, and can stand in a line
 abbrev pub IsSpellable : Act → Type 0
@@ -93,3 +122,14 @@ IsSpellable (RxPost slot handle) =
     (slot < 2 ^ 32) × (handle.name < 256) × (handle.turn < 2 ^ 32)
 IsSpellable RxBell = Unit {0}
 IsSpellable (WireIn frame) = IsBytes frame
+IsSpellable (Fill who buffer place bytes) = (place < 2 ^ 32) × IsBytes bytes
+IsSpellable (Submit who buffer len) = len < 2 ^ 32
+IsSpellable (TxPost slot send) = (slot < 2 ^ 32) × (send < 2 ^ 32)
+IsSpellable TxBell = Unit {0}
+IsSpellable WireOut = Unit {0}
+IsSpellable (Put who key bytes) = IsWord key × IsBytes bytes
+IsSpellable (Ask who key) = IsWord key
+IsSpellable (StoreAnswer who request origin key version) =
+    (request < 2 ^ 32) × IsWord origin × IsWord key × (version < 2 ^ 32)
+IsSpellable (StoreNone who request) = request < 2 ^ 32
+IsSpellable (StoreLose origin key version) = IsWord origin × IsWord key × (version < 2 ^ 32)

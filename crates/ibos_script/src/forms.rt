@@ -4,11 +4,13 @@ ghost use Rattle.ibos_kinds.specs.declared.act.Act.TheVariants.{Start, Switch, C
 ghost use Rattle.ibos_kinds.specs.declared.act.Act.TheVariants.{Look, Go, Draw, CookieSet};
 ghost use Rattle.ibos_kinds.specs.declared.act.Act.TheVariants.{CookieGet, Bind, Unbind};
 ghost use Rattle.ibos_kinds.specs.declared.act.Act.TheVariants.{Done, RegRead, RegWrite, RxBell};
-ghost use Rattle.ibos_kinds.specs.declared.act.Act.TheVariants.{WireIn};
+ghost use Rattle.ibos_kinds.specs.declared.act.Act.TheVariants.{WireIn, Fill, Submit, TxPost};
+ghost use Rattle.ibos_kinds.specs.declared.act.Act.TheVariants.{TxBell, WireOut, Put, Ask};
+ghost use Rattle.ibos_kinds.specs.declared.act.Act.TheVariants.{StoreAnswer, StoreNone, StoreLose};
 ghost use Rattle.ibos_text.specs.Words.{after_spaces, first_word, after_word, has_word};
 ghost use Rattle.ibos_script.specs.Faults.{Gives};
-ghost use Rattle.ibos_script.specs.Forms.{nothing, rest, tab, number, flow, name, hex_number};
-ghost use Rattle.ibos_script.specs.Forms.{key, hex, form, form_of};
+ghost use Rattle.ibos_script.specs.Forms.{nothing, rest, tab, number, flow, buffer, name};
+ghost use Rattle.ibos_script.specs.Forms.{hex_number, key, instance, word, hex, form, form_of};
 ghost use Rattle.ibos_script.specs.Lines.{LineFits, posted};
 
 use crate::fault::LineFault;
@@ -229,6 +231,165 @@ pub fn read_done(who: &[u8], line: &[u8]) -> Result<Line, LineFault>
     Ok(Line::Act(Act::Done { who }))
 }
 
+/// `B PLACE HEX` behind `net T.N fill`.
+pub fn read_fill(alloc: Global, who: &[u8], line: &[u8]) -> Result<Line, LineFault>
+    ensures line { Gives result
+        (form_of (buffer (number (hex nothing))) Fill who.now line.now) }
+    ensures fits { IfOk result LineFits }
+{
+    let (buffer, rest) = take_word(line)?;
+    let (place, rest) = take_word(rest)?;
+    let (bytes, rest) = take_word(rest)?;
+    end_line(rest)?;
+    let Some(who) = read_instance(who) else {
+        return Err(LineFault::Number);
+    };
+    let Some(buffer) = read_number(4, buffer) else {
+        return Err(LineFault::Number);
+    };
+    let Some(place) = read_number(BOUND, place) else {
+        return Err(LineFault::Number);
+    };
+    let Some(bytes) = read_hex(alloc, bytes)? else {
+        return Err(LineFault::Hex);
+    };
+    Ok(Line::Act(Act::Fill {
+        who,
+        buffer: buffer as u8,
+        place: place as u32,
+        bytes,
+    }))
+}
+
+/// `B LEN` behind `net T.N submit`.
+pub fn read_submit(who: &[u8], line: &[u8]) -> Result<Line, LineFault>
+    ensures line { Gives result (form_of (buffer (number nothing)) Submit who.now line.now) }
+    ensures fits { IfOk result LineFits }
+{
+    let (buffer, rest) = take_word(line)?;
+    let (len, rest) = take_word(rest)?;
+    end_line(rest)?;
+    let Some(who) = read_instance(who) else {
+        return Err(LineFault::Number);
+    };
+    let Some(buffer) = read_number(4, buffer) else {
+        return Err(LineFault::Number);
+    };
+    let Some(len) = read_number(BOUND, len) else {
+        return Err(LineFault::Number);
+    };
+    Ok(Line::Act(Act::Submit {
+        who,
+        buffer: buffer as u8,
+        len: len as u32,
+    }))
+}
+
+/// `KEY HEX` behind `page T.N put`.
+pub fn read_put(alloc: Global, who: &[u8], line: &[u8]) -> Result<Line, LineFault>
+    ensures line { Gives result (form_of (word (hex nothing)) Put who.now line.now) }
+    ensures fits { IfOk result LineFits }
+{
+    let (key, rest) = take_word(line)?;
+    let (bytes, rest) = take_word(rest)?;
+    end_line(rest)?;
+    let Some(who) = read_instance(who) else {
+        return Err(LineFault::Number);
+    };
+    let Some(bytes) = read_hex(alloc, bytes)? else {
+        return Err(LineFault::Hex);
+    };
+    let key = Bytes::from_slice(alloc, key)?;
+    Ok(Line::Act(Act::Put { who, key, bytes }))
+}
+
+/// `KEY` behind `page T.N ask`.
+pub fn read_ask(alloc: Global, who: &[u8], line: &[u8]) -> Result<Line, LineFault>
+    ensures line { Gives result (form_of (word nothing) Ask who.now line.now) }
+    ensures fits { IfOk result LineFits }
+{
+    let (key, rest) = take_word(line)?;
+    end_line(rest)?;
+    let Some(who) = read_instance(who) else {
+        return Err(LineFault::Number);
+    };
+    let key = Bytes::from_slice(alloc, key)?;
+    Ok(Line::Act(Act::Ask { who, key }))
+}
+
+/// `T.N R ORIGIN KEY V` behind `store answer`.
+pub fn read_store_answer(alloc: Global, line: &[u8]) -> Result<Line, LineFault>
+    ensures line { Gives result
+        (form (instance (number (word (word (number nothing))))) StoreAnswer line.now) }
+    ensures fits { IfOk result LineFits }
+{
+    let (who, rest) = take_word(line)?;
+    let (request, rest) = take_word(rest)?;
+    let (origin, rest) = take_word(rest)?;
+    let (key, rest) = take_word(rest)?;
+    let (version, rest) = take_word(rest)?;
+    end_line(rest)?;
+    let Some(who) = read_instance(who) else {
+        return Err(LineFault::Number);
+    };
+    let Some(request) = read_number(BOUND, request) else {
+        return Err(LineFault::Number);
+    };
+    let Some(version) = read_number(BOUND, version) else {
+        return Err(LineFault::Number);
+    };
+    let origin = Bytes::from_slice(alloc, origin)?;
+    let key = Bytes::from_slice(alloc, key)?;
+    Ok(Line::Act(Act::StoreAnswer {
+        who,
+        request: request as u32,
+        origin,
+        key,
+        version: version as u32,
+    }))
+}
+
+/// `T.N R` behind `store none`.
+pub fn read_store_none(line: &[u8]) -> Result<Line, LineFault>
+    ensures line { Gives result (form (instance (number nothing)) StoreNone line.now) }
+    ensures fits { IfOk result LineFits }
+{
+    let (who, rest) = take_word(line)?;
+    let (request, rest) = take_word(rest)?;
+    end_line(rest)?;
+    let Some(who) = read_instance(who) else {
+        return Err(LineFault::Number);
+    };
+    let Some(request) = read_number(BOUND, request) else {
+        return Err(LineFault::Number);
+    };
+    Ok(Line::Act(Act::StoreNone {
+        who,
+        request: request as u32,
+    }))
+}
+
+/// `ORIGIN KEY V` behind `store lose`.
+pub fn read_store_lose(alloc: Global, line: &[u8]) -> Result<Line, LineFault>
+    ensures line { Gives result (form (word (word (number nothing))) StoreLose line.now) }
+    ensures fits { IfOk result LineFits }
+{
+    let (origin, rest) = take_word(line)?;
+    let (key, rest) = take_word(rest)?;
+    let (version, rest) = take_word(rest)?;
+    end_line(rest)?;
+    let Some(version) = read_number(BOUND, version) else {
+        return Err(LineFault::Number);
+    };
+    let origin = Bytes::from_slice(alloc, origin)?;
+    let key = Bytes::from_slice(alloc, key)?;
+    Ok(Line::Act(Act::StoreLose {
+        origin,
+        key,
+        version: version as u32,
+    }))
+}
+
 /// `REG` behind `dev read`.
 pub fn read_register_read(line: &[u8]) -> Result<Line, LineFault>
     ensures line { Gives result (form (hex_number nothing) RegRead line.now) }
@@ -286,6 +447,26 @@ pub fn read_receive_post(line: &[u8]) -> Result<Line, LineFault>
     }))
 }
 
+/// `SLOT SEND` behind `dev tx`.
+pub fn read_transmit_post(line: &[u8]) -> Result<Line, LineFault>
+    ensures line { Gives result (form (number (number nothing)) TxPost line.now) }
+    ensures fits { IfOk result LineFits }
+{
+    let (slot, rest) = take_word(line)?;
+    let (send, rest) = take_word(rest)?;
+    end_line(rest)?;
+    let Some(slot) = read_number(BOUND, slot) else {
+        return Err(LineFault::Number);
+    };
+    let Some(send) = read_number(BOUND, send) else {
+        return Err(LineFault::Number);
+    };
+    Ok(Line::Act(Act::TxPost {
+        slot: slot as u32,
+        send: send as u32,
+    }))
+}
+
 /// Nothing behind `dev bell rx`.
 pub fn read_receive_bell(line: &[u8]) -> Result<Line, LineFault>
     ensures line { Gives result (form nothing RxBell line.now) }
@@ -293,6 +474,15 @@ pub fn read_receive_bell(line: &[u8]) -> Result<Line, LineFault>
 {
     end_line(line)?;
     Ok(Line::Act(Act::RxBell))
+}
+
+/// Nothing behind `dev bell tx`.
+pub fn read_transmit_bell(line: &[u8]) -> Result<Line, LineFault>
+    ensures line { Gives result (form nothing TxBell line.now) }
+    ensures fits { IfOk result LineFits }
+{
+    end_line(line)?;
+    Ok(Line::Act(Act::TxBell))
 }
 
 /// `HEX` behind `wire in`.
@@ -306,6 +496,15 @@ pub fn read_wire_frame(alloc: Global, line: &[u8]) -> Result<Line, LineFault>
         return Err(LineFault::Hex);
     };
     Ok(Line::Act(Act::WireIn { frame }))
+}
+
+/// Nothing behind `wire out`.
+pub fn read_wire_room(line: &[u8]) -> Result<Line, LineFault>
+    ensures line { Gives result (form nothing WireOut line.now) }
+    ensures fits { IfOk result LineFits }
+{
+    end_line(line)?;
+    Ok(Line::Act(Act::WireOut))
 }
 
 // The first word of a line that must have one, and the rest after it.

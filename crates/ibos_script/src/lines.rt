@@ -4,14 +4,16 @@ ghost use Rattle.std.specs.List.{list_all};
 ghost use Rattle.ibos_text.specs.Words.{first_word, after_word};
 ghost use Rattle.ibos_script.specs.Faults.{Gives};
 ghost use Rattle.ibos_script.specs.Lines.{LineFits, line_in, act_in, user_in, page_in, net_in};
-ghost use Rattle.ibos_script.specs.Lines.{cookie_in, flow_in, dev_in, bell_in, wire_in};
+ghost use Rattle.ibos_script.specs.Lines.{cookie_in, flow_in, dev_in, bell_in, wire_in, store_in};
 ghost use Rattle.ibos_script.specs.Lines as spec;
 
 use crate::fault::LineFault;
 use crate::forms::{
-    read_bind, read_click, read_close, read_cookie_get, read_cookie_set, read_done, read_draw,
-    read_go, read_look, read_open, read_press, read_receive_bell, read_receive_post,
-    read_register_read, read_register_write, read_switch, read_unbind, read_wire_frame,
+    read_ask, read_bind, read_click, read_close, read_cookie_get, read_cookie_set, read_done,
+    read_draw, read_fill, read_go, read_look, read_open, read_press, read_put, read_receive_bell,
+    read_receive_post, read_register_read, read_register_write, read_store_answer, read_store_lose,
+    read_store_none, read_submit, read_switch, read_transmit_bell, read_transmit_post, read_unbind,
+    read_wire_frame, read_wire_room,
 };
 use ibos_kinds::{Act, Proto, Side};
 use ibos_text::next_word;
@@ -36,18 +38,24 @@ pub enum Line {
 /// | `user key K`, `user click ROW COL`, `user look` | `Press`, `Click`, `Look` |
 /// | `page T.N go URL` | `Go` |
 /// | `page T.N draw ROW COL HEIGHT WIDTH HEX` | `Draw` |
+/// | `page T.N put KEY HEX`, `page T.N ask KEY` | `Put`, `Ask` |
 /// | `page T.N cookie set TEXT`, `net T.N cookie set TEXT` | `CookieSet` |
 /// | `page T.N cookie get`, `net T.N cookie get` | `CookieGet` |
 /// | `net T.N flow tcp`, `net T.N flow udp` | `Bind` |
 /// | `net T.N close I`, `net T.N done` | `Unbind`, `Done` |
+/// | `net T.N fill B PLACE HEX`, `net T.N submit B LEN` | `Fill`, `Submit` |
+/// | `store answer T.N R ORIGIN KEY V` | `StoreAnswer` |
+/// | `store none T.N R`, `store lose ORIGIN KEY V` | `StoreNone`, `StoreLose` |
 /// | `dev read REG`, `dev write REG VALUE` | `RegRead`, `RegWrite` |
 /// | `dev rx SLOT NAME TURN`, `dev bell rx` | `RxPost`, `RxBell` |
-/// | `wire in HEX` | `WireIn` |
+/// | `dev tx SLOT SEND`, `dev bell tx` | `TxPost`, `TxBell` |
+/// | `wire in HEX`, `wire out` | `WireIn`, `WireOut` |
 ///
-/// T (below 64), N (below 32), I (below 16), NAME (below 256), ROW, COL, HEIGHT, WIDTH, SLOT and
-/// TURN (below 2^32) are decimal, in at most ten digits. REG and VALUE are `0x` and one to eight
-/// hexadecimal digits. K is `enter`, `back` or a printable byte in hexadecimal, HEX any number of
-/// bytes in hexadecimal, `-` for none. URL and TEXT take what is left of the line.
+/// T (below 64), N (below 32), I (below 16), B (below 4), NAME (below 256), and ROW, COL, HEIGHT,
+/// WIDTH, PLACE, LEN, R, V, SLOT, TURN and SEND (below 2^32) are decimal, in at most ten digits. REG
+/// and VALUE are `0x` and one to eight hexadecimal digits. K is `enter`, `back` or a printable byte
+/// in hexadecimal, HEX any number of bytes in hexadecimal, `-` for none. KEY and ORIGIN are one
+/// word; URL and TEXT take what is left of the line.
 #[tactic(auto, unfolding(crate::specs::Lines::line_in))]
 pub fn read_line(alloc: Global, line: &[u8]) -> Result<Option<Line>, LineFault>
     ensures line { Gives result (line_in line.now) }
@@ -101,6 +109,9 @@ fn read_act(alloc: Global, actor: &[u8], line: &[u8]) -> Result<Line, LineFault>
     if actor == b"wire".as_slice() {
         return read_wire(alloc, second, line);
     }
+    if actor == b"store".as_slice() {
+        return read_store(alloc, second, line);
+    }
     let (third, line) = split_word(line);
     if actor == b"page".as_slice() {
         return read_page(alloc, second, third, line);
@@ -151,6 +162,9 @@ fn read_dev(command: &[u8], line: &[u8]) -> Result<Line, LineFault>
     if command == b"rx".as_slice() {
         return read_receive_post(line);
     }
+    if command == b"tx".as_slice() {
+        return read_transmit_post(line);
+    }
     if command == b"bell".as_slice() {
         let (ring, line) = split_word(line);
         return read_bell(ring, line);
@@ -166,6 +180,9 @@ fn read_bell(ring: &[u8], line: &[u8]) -> Result<Line, LineFault>
     if ring == b"rx".as_slice() {
         return read_receive_bell(line);
     }
+    if ring == b"tx".as_slice() {
+        return read_transmit_bell(line);
+    }
     Err(LineFault::Word)
 }
 
@@ -176,6 +193,26 @@ fn read_wire(alloc: Global, command: &[u8], line: &[u8]) -> Result<Line, LineFau
 {
     if command == b"in".as_slice() {
         return read_wire_frame(alloc, line);
+    }
+    if command == b"out".as_slice() {
+        return read_wire_room(line);
+    }
+    Err(LineFault::Word)
+}
+
+#[tactic(auto, unfolding(crate::specs::Lines::store_in))]
+fn read_store(alloc: Global, command: &[u8], line: &[u8]) -> Result<Line, LineFault>
+    ensures line { Gives result (store_in command.now line.now) }
+    ensures fits { IfOk result LineFits }
+{
+    if command == b"answer".as_slice() {
+        return read_store_answer(alloc, line);
+    }
+    if command == b"none".as_slice() {
+        return read_store_none(line);
+    }
+    if command == b"lose".as_slice() {
+        return read_store_lose(alloc, line);
     }
     Err(LineFault::Word)
 }
@@ -194,6 +231,12 @@ fn read_page(alloc: Global, who: &[u8], command: &[u8], line: &[u8]) -> Result<L
     if command == b"cookie".as_slice() {
         let (command, line) = split_word(line);
         return read_cookie(alloc, Side::Page, who, command, line);
+    }
+    if command == b"put".as_slice() {
+        return read_put(alloc, who, line);
+    }
+    if command == b"ask".as_slice() {
+        return read_ask(alloc, who, line);
     }
     Err(LineFault::Word)
 }
@@ -216,6 +259,12 @@ fn read_net(alloc: Global, who: &[u8], command: &[u8], line: &[u8]) -> Result<Li
     if command == b"cookie".as_slice() {
         let (command, line) = split_word(line);
         return read_cookie(alloc, Side::Net, who, command, line);
+    }
+    if command == b"fill".as_slice() {
+        return read_fill(alloc, who, line);
+    }
+    if command == b"submit".as_slice() {
+        return read_submit(who, line);
     }
     Err(LineFault::Word)
 }

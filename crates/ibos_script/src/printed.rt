@@ -1,5 +1,6 @@
 // The text of an outcome.
-ghost use Rattle.std.specs.Prelude.{◌≡◌, ◌++◌, [], ◌∷◌, IfOk, OnOk, OnErr, codes, decimal};
+ghost use Rattle.std.specs.Prelude.{◌≡◌, ◌≤◌, ◌++◌, [], ◌∷◌, length, IfOk, OnOk, OnErr, codes};
+ghost use Rattle.std.specs.Prelude.{decimal};
 ghost use Rattle.hex.specs.Hex.{encode_lower};
 ghost use Rattle.ibos_script.specs.Printed as spec;
 ghost use Rattle.ibos_script.specs.Printed.{Appends, IsCutShort, outcome_text, line_text};
@@ -9,6 +10,9 @@ ghost use Rattle.ibos_script.specs.Printed.{addr_text, hex_text, value_text, ver
 use ibos_kinds::{Bytes, Endpoint, Handle, Head, Instance, Item, Memory, Outcome, Verdict};
 use itoa::Buffer;
 use std::alloc::Global;
+
+// So many bytes are written in hexadecimal at once.
+const PIECE: usize = 128;
 
 /// Appends the lines of an outcome, each with the act's number: one for its head, and one for each
 /// item. Where memory runs out a front of these lines is appended.
@@ -73,7 +77,7 @@ fn write_item(alloc: Global, digits: &[u8], item: &Item, text: &mut Bytes) -> Re
             remote,
         } => { write_flow(alloc, digits, *who, *flow, *port, *remote, text) }
         Item::Arrived { who, flow, bytes } => {
-            write_frame(alloc, digits, *who, *flow, bytes.as_slice(), text)
+            write_frame(digits, *who, *flow, bytes.as_slice(), text)
         }
         Item::ValueIs { value } => write_one(digits, b"dev value ", &value_digits(*value), text),
         Item::LentIs { handle } => write_lent(digits, *handle, text),
@@ -81,6 +85,49 @@ fn write_item(alloc: Global, digits: &[u8], item: &Item, text: &mut Bytes) -> Re
         Item::Dropped { rule } => {
             let (code, name) = (rule.code().as_bytes(), rule.name().as_bytes());
             write_two(digits, b"log drop ", code, name, text)
+        }
+        Item::Home { who, buffer } => {
+            write_told_number(digits, *who, b" home ", u32::from(*buffer), text)
+        }
+        Item::SendIs { send } => write_number(digits, b"dev send ", *send, text),
+        Item::Returned { send } => write_number(digits, b"dev returned ", *send, text),
+        Item::SentIs { send } => write_number(digits, b"wire sent ", *send, text),
+        Item::Idle => write_one(digits, b"wire ", b"idle", text),
+        Item::Accepted { send, who, bytes } => {
+            write_accepted(digits, *send, *who, bytes.as_slice(), text)
+        }
+        Item::VersionIs { who, version } => {
+            write_told_number(digits, *who, b" version ", *version, text)
+        }
+        Item::RequestIs { who, request } => {
+            write_told_number(digits, *who, b" request ", *request, text)
+        }
+        Item::Object {
+            who,
+            request,
+            version,
+            bytes,
+        } => { write_object(digits, *who, *request, *version, bytes.as_slice(), text) }
+        Item::NoObject { who, request } => {
+            write_told_number(digits, *who, b" none ", *request, text)
+        }
+        Item::StorePut {
+            origin,
+            key,
+            version,
+            len,
+        } => {
+            let (origin, key) = (origin.as_slice(), key.as_slice());
+            write_put(digits, origin, key, *version, *len, text)
+        }
+        Item::StoreAsk {
+            who,
+            request,
+            origin,
+            key,
+        } => {
+            let (origin, key) = (origin.as_slice(), key.as_slice());
+            write_ask(digits, *who, *request, origin, key, text)
         }
     }
 }
@@ -220,9 +267,8 @@ fn addr_digits(alloc: Global, addr: u32) -> Result<Bytes, Memory>
 }
 
 // A frame for a flow of an instance.
-#[tactic(auto, unfolding(crate::specs::Printed::hex_text))]
+#[tactic(auto, unfolding(crate::specs::Printed::line_text, crate::specs::Printed::instance_text))]
 fn write_frame(
-    alloc: Global,
     digits: &[u8],
     who: Instance,
     flow: u8,
@@ -233,10 +279,160 @@ fn write_frame(
         (line_text digits.now (spec.instance_text who ++ codes " frame "
         ++ decimal flow ++ codes " " ++ hex_text bytes.now)) }
 {
-    let mut flows = Buffer::new();
-    let flow = flows.format(flow).as_bytes();
-    let hex = hex::encode(alloc, bytes)?;
-    write_told_two(digits, who, b" frame ", flow, or_dash(hex.as_bytes()), text)
+    let mut buffers = (Buffer::new(), Buffer::new(), Buffer::new());
+    let tab = buffers.0.format(who.tab).as_bytes();
+    let ord = buffers.1.format(who.ord).as_bytes();
+    let flow = buffers.2.format(flow).as_bytes();
+    let front = [digits, b" ", tab, b".", ord, b" frame ", flow, b" "];
+    write_hex(&front, bytes, text)
+}
+
+// A send that was accepted, with its frame.
+#[tactic(auto, unfolding(crate::specs::Printed::line_text, crate::specs::Printed::instance_text))]
+fn write_accepted(
+    digits: &[u8],
+    send: u32,
+    who: Instance,
+    bytes: &[u8],
+    text: &mut Bytes,
+) -> Result<(), Memory>
+    ensures { Appends result text.old text.new
+        (line_text digits.now (codes "log frame " ++ decimal send ++ codes " "
+        ++ spec.instance_text who ++ codes " " ++ hex_text bytes.now)) }
+{
+    let mut buffers = (Buffer::new(), Buffer::new(), Buffer::new());
+    let send = buffers.0.format(send).as_bytes();
+    let tab = buffers.1.format(who.tab).as_bytes();
+    let ord = buffers.2.format(who.ord).as_bytes();
+    let front = [digits, b" log frame ", send, b" ", tab, b".", ord, b" "];
+    write_hex(&front, bytes, text)
+}
+
+// An object for a request of an instance.
+#[tactic(auto, unfolding(crate::specs::Printed::line_text, crate::specs::Printed::instance_text))]
+fn write_object(
+    digits: &[u8],
+    who: Instance,
+    request: u32,
+    version: u32,
+    bytes: &[u8],
+    text: &mut Bytes,
+) -> Result<(), Memory>
+    ensures { Appends result text.old text.new
+        (line_text digits.now (spec.instance_text who ++ codes " object " ++ decimal request
+        ++ codes " " ++ decimal version ++ codes " " ++ hex_text bytes.now)) }
+{
+    let mut buffers = (Buffer::new(), Buffer::new(), Buffer::new(), Buffer::new());
+    let tab = buffers.0.format(who.tab).as_bytes();
+    let ord = buffers.1.format(who.ord).as_bytes();
+    let request = buffers.2.format(request).as_bytes();
+    let version = buffers.3.format(version).as_bytes();
+    let front = [
+        digits,
+        b" ",
+        tab,
+        b".",
+        ord,
+        b" object ",
+        request,
+        b" ",
+        version,
+        b" ",
+    ];
+    write_hex(&front, bytes, text)
+}
+
+// An object that is to be stored.
+#[tactic(auto, unfolding(crate::specs::Printed::line_text))]
+fn write_put<'a>(
+    digits: &'a [u8],
+    origin: &'a [u8],
+    key: &'a [u8],
+    version: u32,
+    len: u32,
+    text: &mut Bytes,
+) -> Result<(), Memory>
+    ensures { Appends result text.old text.new
+        (line_text digits.now (codes "store put " ++ origin.now ++ codes " " ++ key.now
+        ++ codes " " ++ decimal version ++ codes " " ++ decimal len)) }
+{
+    let mut buffers = (Buffer::new(), Buffer::new());
+    let version = buffers.0.format(version).as_bytes();
+    let len = buffers.1.format(len).as_bytes();
+    let pieces = [
+        digits,
+        b" store put ",
+        origin,
+        b" ",
+        key,
+        b" ",
+        version,
+        b" ",
+        len,
+        b"\n",
+    ];
+    push_pieces(text, &pieces)
+}
+
+// A request for an object.
+#[tactic(auto, unfolding(crate::specs::Printed::line_text, crate::specs::Printed::instance_text))]
+fn write_ask<'a>(
+    digits: &'a [u8],
+    who: Instance,
+    request: u32,
+    origin: &'a [u8],
+    key: &'a [u8],
+    text: &mut Bytes,
+) -> Result<(), Memory>
+    ensures { Appends result text.old text.new
+        (line_text digits.now (codes "store ask " ++ spec.instance_text who ++ codes " "
+        ++ decimal request ++ codes " " ++ origin.now ++ codes " " ++ key.now)) }
+{
+    let mut buffers = (Buffer::new(), Buffer::new(), Buffer::new());
+    let tab = buffers.0.format(who.tab).as_bytes();
+    let ord = buffers.1.format(who.ord).as_bytes();
+    let request = buffers.2.format(request).as_bytes();
+    let pieces = [
+        digits,
+        b" store ask ",
+        tab,
+        b".",
+        ord,
+        b" ",
+        request,
+        b" ",
+        origin,
+        b" ",
+        key,
+        b"\n",
+    ];
+    push_pieces(text, &pieces)
+}
+
+// A line to an instance that ends in a number.
+fn write_told_number(
+    digits: &[u8],
+    who: Instance,
+    word: &[u8],
+    number: u32,
+    text: &mut Bytes,
+) -> Result<(), Memory>
+    ensures { Appends result text.old text.new
+        (line_text digits.now (spec.instance_text who ++ word.now ++ decimal number)) }
+{
+    let mut buffer = Buffer::new();
+    let number = buffer.format(number).as_bytes();
+    write_told(digits, who, word, number, text)
+}
+
+// A line that ends in a number.
+fn write_number(digits: &[u8], said: &[u8], number: u32, text: &mut Bytes) -> Result<(), Memory>
+    ensures { Appends result text.old text.new
+        (line_text digits.now (said.now ++ decimal number)) }
+{
+    let mut buffer = Buffer::new();
+    let number = buffer.format(number).as_bytes();
+    write_one(digits, said, number, text)
 }
 
 // A buffer that is the driver's again.
@@ -351,6 +547,53 @@ fn or_dash(text: &[u8]) -> &[u8]
     ensures { result.now ≡ spec.or_dash text.now }
 {
     if text.is_empty() { b"-" } else { text }
+}
+
+// The pieces of a line, and the bytes in which it ends.
+fn write_hex(front: &[&[u8]], bytes: &[u8], text: &mut Bytes) -> Result<(), Memory>
+    ensures { Appends result text.old text.new
+        (pieces_text front.now ++ hex_text bytes.now ++ codes "\n") }
+{
+    push_pieces(text, front)?;
+    push_hex(text, bytes)?;
+    push_pieces(text, &[b"\n"])
+}
+
+// Appends bytes in hexadecimal, `-` for none.
+#[tactic(auto, unfolding(crate::specs::Printed::hex_text, crate::specs::Printed::or_dash))]
+fn push_hex(text: &mut Bytes, bytes: &[u8]) -> Result<(), Memory>
+    ensures { Appends result text.old text.new (hex_text bytes.now) }
+{
+    if bytes.is_empty() {
+        return push_pieces(text, &[b"-"]);
+    }
+    push_digits(text, bytes)
+}
+
+// Appends two digits for each byte, those of a few bytes at a time.
+fn push_digits(text: &mut Bytes, bytes: &[u8]) -> Result<(), Memory>
+    ensures { Appends result text.old text.new (encode_lower bytes.now) }
+{
+    let mut at = 0;
+    while at < bytes.len() {
+        let few = PIECE.min(bytes.len() - at);
+        push_few(text, &bytes[at..at + few])?;
+        at += few;
+    }
+    Ok(())
+}
+
+fn push_few(text: &mut Bytes, bytes: &[u8]) -> Result<(), Memory>
+    requires few { length bytes.now ≤ 128 }
+    ensures ok { OnOk result (text.new ≡ text.old ++ encode_lower bytes.now) }
+    ensures err { OnErr result (text.new ≡ text.old) }
+{
+    let mut room = [0u8; 2 * PIECE];
+    let digits = &mut room[..2 * bytes.len()];
+    let Ok(()) = hex::encode_to_slice(bytes, digits) else {
+        unreachable!()
+    };
+    text.push_slice(digits)
 }
 
 // A text of pieces, one after another.

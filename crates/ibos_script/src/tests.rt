@@ -117,6 +117,73 @@ fn each_act_of_the_network_is_read(rt: HostRuntime) -> Result<(), Fail> {
 }
 
 #[test]
+fn each_act_of_sends_and_stored_objects_is_read(rt: HostRuntime) -> Result<(), Fail> {
+    let alloc = rt.alloc();
+    let who = Instance { tab: 63, ord: 31 };
+    let fill = Act::Fill {
+        who,
+        buffer: 3,
+        place: 2047,
+        bytes: bytes(alloc, b"JK")?,
+    };
+    says(&rt, alloc, b"net 63.31  fill 3 02047 4a4B ", fill);
+    let (buffer, len) = (0, 55);
+    says(
+        &rt,
+        alloc,
+        b"net 63.31 submit 00 55",
+        Act::Submit { who, buffer, len },
+    );
+    let (slot, send) = (63, 4294967295);
+    says(
+        &rt,
+        alloc,
+        b"dev tx 63 4294967295",
+        Act::TxPost { slot, send },
+    );
+    says(&rt, alloc, b"dev bell tx", Act::TxBell);
+    says(&rt, alloc, b"wire  out ", Act::WireOut);
+    let put = Act::Put {
+        who,
+        key: bytes(alloc, b"-")?,
+        bytes: Bytes::new(alloc),
+    };
+    says(&rt, alloc, b"page 63.31 put - -", put);
+    let ask = Act::Ask {
+        who,
+        key: bytes(alloc, b"k%20")?,
+    };
+    says(&rt, alloc, b"page 63.31 ask  k%20 ", ask);
+    let answer = Act::StoreAnswer {
+        who,
+        request: 7,
+        origin: bytes(alloc, b"http://a.example")?,
+        key: bytes(alloc, b"k")?,
+        version: 2,
+    };
+    says(
+        &rt,
+        alloc,
+        b"store answer 63.31 7 http://a.example k 2",
+        answer,
+    );
+    let request = 7;
+    says(
+        &rt,
+        alloc,
+        b"store none 63.31 7",
+        Act::StoreNone { who, request },
+    );
+    let lose = Act::StoreLose {
+        origin: bytes(alloc, b"a")?,
+        key: bytes(alloc, b"k")?,
+        version: 0,
+    };
+    says(&rt, alloc, b" store lose a k 0", lose);
+    Ok(())
+}
+
+#[test]
 fn other_lines_are_passed_over_or_refused(rt: HostRuntime) {
     for line in [b"".as_slice(), b"   ", b"# user open 0 a"] {
         assert!(rt; read_line(rt.alloc(), line) == Ok(None));
@@ -151,6 +218,16 @@ fn other_lines_are_passed_over_or_refused(rt: HostRuntime) {
         (b"wire next", LineFault::Word),
         (b"wire in", LineFault::Count),
         (b"wire in 0x", LineFault::Hex),
+        (b"wire out 0", LineFault::Count),
+        (b"net 0.0 fill 4 0 7", LineFault::Number),
+        (b"net 0.0 fill 3 0 7", LineFault::Hex),
+        (b"page 64.0 put k 7", LineFault::Number),
+        (b"page 0.0 put k", LineFault::Count),
+        (b"page 0.0 ask k 0", LineFault::Count),
+        (b"store", LineFault::Word),
+        (b"store answer 0.0 0 a 0", LineFault::Count),
+        (b"store answer 0.32 0 a k x", LineFault::Number),
+        (b"store lose a k -1", LineFault::Number),
     ];
     for (line, fault) in faults {
         assert!(rt; read_line(rt.alloc(), line) == Err(fault));
@@ -234,6 +311,58 @@ fn outcomes_are_printed_line_by_line(rt: HostRuntime) -> Result<(), Fail> {
         1024 dev value 00c0ffee\n\
         1024 user row 2 |\n\
         18446744073709551615 denied U8 LongOrigin\n";
+    assert_eq!(rt; text.as_slice(), wanted.as_slice());
+    Ok(())
+}
+
+#[test]
+fn sends_and_stored_objects_are_printed(rt: HostRuntime) -> Result<(), Fail> {
+    let alloc = rt.alloc();
+    let mut text = Bytes::new(alloc);
+    let mut outcome = Outcome::new(alloc);
+    let who = Instance { tab: 1, ord: 2 };
+    outcome.push(Item::Home { who, buffer: 3 })?;
+    outcome.push(Item::Idle)?;
+    outcome.push(Item::Accepted {
+        send: 9,
+        who,
+        bytes: bytes(alloc, [0xabu8; 130].as_slice())?,
+    })?;
+    outcome.push(Item::Object {
+        who,
+        request: 4,
+        version: 5,
+        bytes: Bytes::new(alloc),
+    })?;
+    outcome.push(Item::StorePut {
+        origin: bytes(alloc, b"http://a.example")?,
+        key: bytes(alloc, b"k")?,
+        version: 5,
+        len: 600,
+    })?;
+    outcome.push(Item::StoreAsk {
+        who,
+        request: 4,
+        origin: bytes(alloc, b"http://a.example")?,
+        key: bytes(alloc, b"k")?,
+    })?;
+    write_outcome(alloc, 8, &outcome, &mut text)?;
+    let mut wanted = bytes(
+        alloc,
+        b"8 ok\n\
+        8 1.2 home 3\n\
+        8 wire idle\n\
+        8 log frame 9 1.2 ",
+    )?;
+    for _ in 0..130 {
+        wanted.push_slice(b"ab")?;
+    }
+    wanted.push_slice(
+        b"\n\
+        8 1.2 object 4 5 -\n\
+        8 store put http://a.example k 5 600\n\
+        8 store ask 1.2 4 http://a.example k\n",
+    )?;
     assert_eq!(rt; text.as_slice(), wanted.as_slice());
     Ok(())
 }
