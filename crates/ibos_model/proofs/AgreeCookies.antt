@@ -5,6 +5,7 @@ use Rattle.std.proofs.lemmas.Bool.Decides.{nat_tests}
 use Rattle.ibos_kinds.specs.declared.names.Instance.{Instance}
 use Rattle.ibos_kinds.specs.declared.party.Party.TheVariants.{Page as PageOf}
 use Rattle.ibos_kinds.specs.declared.names.Side.{Side}
+use Rattle.ibos_kinds.specs.declared.outcome.Outcome.{Outcome}
 use Rattle.ibos_kinds.specs.declared.rule.Rule.{Rule}
 use Rattle.ibos_kinds.specs.declared.act.Act.TheVariants.{CookieSet, CookieGet}
 use Rattle.ibos_kinds.specs.declared.cookies.Cookie.{Cookie}
@@ -14,6 +15,7 @@ use Rattle.ibos_model.specs.Journal.{Journal, is_ok, is_accepted, same}
 use Rattle.ibos_model.specs.Tabs.{tabs, Life, Unborn, Alive, Gone, life_with, life_of, origin_of, origin_with}
 use Rattle.ibos_model.specs.Jars.{with_set, jar, sets_of}
 use Rattle.ibos_model.specs.Network.{network}
+use Rattle.ibos_model.specs.Stored.{puts_of, requests_of}
 use Rattle.ibos_model.specs.Outcomes.{admitted, answer, set_outcome, get_outcome, out}
 use Rattle.ibos_model.specs.Facts.{OtherSet, when, Suits}
 use Rattle.ibos_model.specs.Gives.{Mine, gives_from, mine_from}
@@ -29,6 +31,11 @@ pub no_items : (broken : Option Rule) → (answer broken).items ≡ []
 no_items None = refl
 no_items (Some rule) = refl
 
+pub answer_told : (p : Instance) (life : Life) (broken : Option Rule) → told (PageOf p) (admitted life (answer broken)).items ≡ []
+answer_told p Unborn broken = refl
+answer_told p Gone broken = refl
+answer_told p Alive broken = ap (told (PageOf p)) (no_items broken)
+
 set_row_items : (text : List ℕ) (sets : List Cookie) → (set_outcome text sets).items ≡ []
 set_row_items text sets = no_items (set_breaks text (jar sets))
 
@@ -42,12 +49,12 @@ other_get_told p who Unborn sets differ = refl
 other_get_told p who Gone sets differ = refl
 other_get_told p who Alive sets differ = grind (arith, nat_tests)
 
-counts_own : (o text : List ℕ) (sets : List ℕ → List Cookie) (page : Option Page) (gone : Bool) → (life_with page gone ≢ Unborn → origin_with page ≡ o)
-    → (is_ok (admitted (life_with page gone) (set_outcome text (sets (origin_with page)))).head && bytes_eq (origin_with page) o)
-    ≡ is_ok (admitted (life_with page gone) (set_outcome text (sets o))).head
-counts_own o text sets None gone suits = refl
-counts_own o text sets (Some page) true suits = refl
-counts_own o text sets (Some page) false suits =
+-- an accepted own act is one of an instance of the origin
+pub counts_own : (o : List ℕ) (row : List ℕ → Outcome) (page : Option Page) (gone : Bool) → (life_with page gone ≢ Unborn → origin_with page ≡ o)
+    → (is_ok (admitted (life_with page gone) (row (origin_with page))).head && bytes_eq (origin_with page) o) ≡ is_ok (admitted (life_with page gone) (row o)).head
+counts_own o row None gone suits = refl
+counts_own o row (Some page) true suits = refl
+counts_own o row (Some page) false suits =
     let is : page.origin ≡ o = suits (λ unborn. cc) in
     rw (is, bytes_eq-refl o) (and-true _)
 
@@ -62,14 +69,14 @@ silent_other H p o m text false = refl
 
 pub set_agrees : (H : HostTable) (p : Instance) (o : List ℕ) (J : Journal) (side : Side) (who : Instance) (text w : List ℕ) → Suits H p o J
     → (own : Bool) → same who p ≡ own → Agrees H p o J (entry H J (CookieSet side who text) w)
-unfolding tabs sets_of network
+unfolding tabs sets_of network puts_of requests_of
 set_agrees H p o J side who text w suits true own =
     let here : who ≡ p = same-true who p own in
     record {
       told = rw own (told_own H p o (mine_of H p o J) (CookieSet side who text) (out H J (CookieSet side who text))
           (ap (answers p) (ap (λ q. out H J (CookieSet side q text)) here ∙ admit_same o (λ origin. set_outcome text (sets_of H J origin)) ((tabs H J).page p) ((tabs H J).is_gone p) suits)));
       mine = rw (own, here) (ap (λ counts. record (mine_of H p o J) { sets = with_set counts text (sets_of H J o) })
-          (counts_own o text (sets_of H J) ((tabs H J).page p) ((tabs H J).is_gone p) suits));
+          (counts_own o (λ origin. set_outcome text (sets_of H J origin)) ((tabs H J).page p) ((tabs H J).is_gone p) suits));
     }
 set_agrees H p o J side who text w suits false other =
     let counts = is_accepted (entry H J (CookieSet side who text) w) && bytes_eq (origin_of H J who) o in
@@ -80,7 +87,7 @@ set_agrees H p o J side who text w suits false other =
 
 pub get_agrees : (H : HostTable) (p : Instance) (o : List ℕ) (J : Journal) (side : Side) (who : Instance) (w : List ℕ) → Suits H p o J
     → (own : Bool) → same who p ≡ own → Agrees H p o J (entry H J (CookieGet side who) w)
-unfolding tabs sets_of network
+unfolding tabs sets_of network puts_of requests_of
 get_agrees H p o J side who w suits true own =
     let here : who ≡ p = same-true who p own in
     record {

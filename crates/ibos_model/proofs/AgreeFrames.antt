@@ -24,6 +24,7 @@ use Rattle.ibos_model.specs.Network.{bound_to, ear_in, endpoint_for, flows_by, n
 use Rattle.ibos_model.specs.Outcomes.{admitted, bind_outcome, bound_in, bound_outcome, done_outcome, out, unbind_outcome, unless_denied, value_at, value_outcome}
 use Rattle.ibos_model.specs.OwnBell.{is_for, own_bell}
 use Rattle.ibos_model.specs.Rings.{handles_after, register, values_in}
+use Rattle.ibos_model.specs.Stored.{puts_of, requests_of}
 use Rattle.ibos_model.specs.Tabs.{Life, Unborn, Alive, Gone, life_of, tabs}
 use Rattle.ibos_model.proofs.AgreeCookies.{no_items}
 use Rattle.ibos_model.proofs.Bells.{bell_told, ear_same}
@@ -44,7 +45,7 @@ binds H J p origin = bind_outcome p (bound_to (endpoint_for H origin) ((network 
 
 pub bind_agrees : (H : HostTable) (p : Instance) (o : List ℕ) (J : Journal) (who : Instance) (proto : Proto) (w : List ℕ) → Suits H p o J
     → (own : Bool) → same who p ≡ own → Agrees H p o J (entry H J (Bind who proto) w)
-unfolding tabs sets_of network
+unfolding tabs sets_of network puts_of requests_of
 bind_agrees H p o J who proto w suits true own =
     let P : Instance → Type 0 = λ q. Agrees H p o J (entry H J (Bind q proto) w) in
     let is = admit_same o (binds H J p) ((tabs H J).page p) ((tabs H J).is_gone p) suits in
@@ -68,7 +69,7 @@ unbinds H J p flow origin = unbind_outcome (bound_to (endpoint_for H origin) ((n
 
 pub unbind_agrees : (H : HostTable) (p : Instance) (o : List ℕ) (J : Journal) (who : Instance) (flow : ℕ) (w : List ℕ) → Suits H p o J
     → (own : Bool) → same who p ≡ own → Agrees H p o J (entry H J (Unbind who flow) w)
-unfolding tabs sets_of network
+unfolding tabs sets_of network puts_of requests_of
 unbind_agrees H p o J who flow w suits true own =
     let P : Instance → Type 0 = λ q. Agrees H p o J (entry H J (Unbind q flow) w) in
     let is = admit_same o (unbinds H J p flow) ((tabs H J).page p) ((tabs H J).is_gone p) suits in
@@ -91,7 +92,7 @@ done_told p Alive (w ∷ ws) = refl
 
 pub done_agrees : (H : HostTable) (p : Instance) (o : List ℕ) (J : Journal) (who : Instance) (w : List ℕ)
     → (own : Bool) → same who p ≡ own → Agrees H p o J (entry H J (Done who) w)
-unfolding tabs sets_of network
+unfolding tabs sets_of network puts_of requests_of
 done_agrees H p o J who w true own =
     let P : Instance → Type 0 = λ q. Agrees H p o J (entry H J (Done q) w) in
     subst P (sym (same-true who p own)) (record { told = rw (same-refl p) (sym (append-nil _)); mine = rw (same-refl p) refl })
@@ -107,21 +108,21 @@ read_told p None value = refl
 read_told p (Some rule) value = refl
 
 pub read_agrees : (H : HostTable) (p : Instance) (o : List ℕ) (J : Journal) (offset : ℕ) (w : List ℕ) → Agrees H p o J (entry H J (RegRead offset) w)
-unfolding tabs sets_of network
+unfolding tabs sets_of network puts_of requests_of
 read_agrees H p o J offset w = record {
   told = read_told p (read_rule offset) (value_at (register H.local (network J).rings) (reg_at offset));
   mine = refl;
 }
 
 pub write_agrees : (H : HostTable) (p : Instance) (o : List ℕ) (J : Journal) (offset value : ℕ) (w : List ℕ) → Agrees H p o J (entry H J (RegWrite offset value) w)
-unfolding tabs sets_of network
+unfolding tabs sets_of network puts_of requests_of
 write_agrees H p o J offset value w = record {
   told = ap (told (PageOf p)) (no_items (write_rule (values_in (network J).rings) offset value));
   mine = refl;
 }
 
 pub post_agrees : (H : HostTable) (p : Instance) (o : List ℕ) (J : Journal) (slot : ℕ) (handle : Handle) (w : List ℕ) → Agrees H p o J (entry H J (RxPost slot handle) w)
-unfolding tabs sets_of network
+unfolding tabs sets_of network puts_of requests_of
 post_agrees H p o J slot handle w =
     let rings = (network J).rings in
     record { told = ap (told (PageOf p)) (no_items (receive_rule rings.receive rings.names rings.turns slot handle)); mine = refl }
@@ -138,7 +139,7 @@ frames_mine H p o m [] = ap (λ ws. record m { pending = ws }) (sym (append-nil 
 frames_mine H p o m (w ∷ ws) = frames_mine H p o (mine_after H p o m (Frame w)) ws ∙ ap (λ ws. record m { pending = ws }) (append_assoc m.pending (w ∷ []) ws)
 
 pub arrive_agrees : (H : HostTable) (p : Instance) (o : List ℕ) (J : Journal) (frame w : List ℕ) → Agrees H p o J (entry H J (WireIn frame) w)
-unfolding tabs sets_of network
+unfolding tabs sets_of network puts_of requests_of
 arrive_agrees H p o J frame w =
     let heard : List (List ℕ) = heard_by (WireIn frame) (out H J (WireIn frame)) w in
     record {
@@ -150,7 +151,7 @@ arrive_agrees H p o J frame w =
 -- ---- the receive bell
 
 pub bell_agrees : (H : HostTable) (p : Instance) (o : List ℕ) (J : Journal) (w : List ℕ) → Suits H p o J → Agrees H p o J (entry H J RxBell w)
-unfolding tabs sets_of network
+unfolding tabs sets_of network puts_of requests_of
 bell_agrees H p o J w suits =
     let n = network J in
     let is = bell_told H.local p (ear_in H (tabs H J) n) (unread_count n) (handles_after n.rings) n.pending

@@ -16,9 +16,10 @@ use Rattle.ibos_origin.specs.Hosts.{HostTable}
 use Rattle.ibos_origin.specs.Pages.{Page, allowed}
 use Rattle.ibos_model.specs.Journal.{Journal, is_ok, same}
 use Rattle.ibos_model.specs.Focus.{focus_of, is_active}
-use Rattle.ibos_model.specs.Tabs.{Tabs, Change, tabs, Life, Unborn, Alive, Gone, changed_by, entering, if_ok, life_of, active_of}
+use Rattle.ibos_model.specs.Tabs.{Tabs, Change, tabs, changed_by, entering, if_ok, life_of, active_of}
 use Rattle.ibos_model.specs.Jars.{sets_of}
 use Rattle.ibos_model.specs.Network.{network}
+use Rattle.ibos_model.specs.Stored.{puts_of, requests_of}
 use Rattle.ibos_model.specs.Screen.{screen, seen_row}
 use Rattle.ibos_model.specs.Outcomes.{accepted, denied, admitted, answer, page_key_outcome, enter_outcome, content_click_outcome, rows_from, draw_outcome, out}
 use Rattle.ibos_model.specs.Facts.{Fact, KeyHit, ClickHit, when, change_facts}
@@ -28,7 +29,7 @@ use Rattle.ibos_model.proofs.Equalities.{same-true}
 use Rattle.ibos_model.proofs.ChangesDue.{IsSound, AllowsAll, changes_allowed}
 use Rattle.ibos_model.proofs.ChangesTold.{item_of, mine_in, changes_told}
 use Rattle.ibos_model.proofs.EntriesAgree.{held_of, mine_of, Agrees, answers, entry, told_own}
-use Rattle.ibos_model.proofs.AgreeCookies.{no_items}
+use Rattle.ibos_model.proofs.AgreeCookies.{answer_told, no_items}
 
 -- ---- keys
 
@@ -103,7 +104,7 @@ typed_at H p o t held active key broken true = typed_in H p o t held active key 
 typed_at H p o t held active key broken false = to_page H p o t held active key
 
 pub press_agrees : (H : HostTable) (p : Instance) (o : List ℕ) (J : Journal) (key : Key) (w : List ℕ) → IsSound (tabs H J) → Agrees H p o J (entry H J (Press key) w)
-unfolding tabs sets_of network
+unfolding tabs sets_of network puts_of requests_of
 press_agrees H p o J (Byte byte) w sound =
     let is = typed_at H p o (tabs H J) (held_of H p o J) (active_of H J) (Byte byte) (key_breaks (focus_of J).entry_line (Byte byte)) (focus_of J).at_entry_line in
     record { told = is.told; mine = is.mine }
@@ -129,7 +130,7 @@ clicked_told H p o m None row col false false = refl
 clicked_told H p o m (Some who) row col false false = grind (arith, nat_tests, same-true who p)
 
 pub click_agrees : (H : HostTable) (p : Instance) (o : List ℕ) (J : Journal) (row col : ℕ) (w : List ℕ) → Agrees H p o J (entry H J (Click row col) w)
-unfolding tabs sets_of network
+unfolding tabs sets_of network puts_of requests_of
 click_agrees H p o J row col w = record {
   told = clicked_told H p o (mine_of H p o J) (active_of H J) (row - chrome_rows) col (not (is_on_screen row col)) (nat_lt row chrome_rows);
   mine = click_mine H p o (mine_of H p o J) _ (row - chrome_rows) col;
@@ -142,19 +143,14 @@ no_rows p zero r f = refl
 no_rows p (suc n) r f = no_rows p n (r + 1) f
 
 pub look_agrees : (H : HostTable) (p : Instance) (o : List ℕ) (J : Journal) (w : List ℕ) → Agrees H p o J (entry H J Look w)
-unfolding tabs sets_of network
+unfolding tabs sets_of network puts_of requests_of
 look_agrees H p o J w = record { told = no_rows p (chrome_rows + content_rows) 0 (seen_row (screen H J)); mine = refl }
 
 -- ---- draws
 
-draw_told : (p : Instance) (life : Life) (broken : Option Rule) → told (PageOf p) (admitted life (answer broken)).items ≡ []
-draw_told p Unborn broken = refl
-draw_told p Gone broken = refl
-draw_told p Alive broken = ap (told (PageOf p)) (no_items broken)
-
 pub draw_agrees : (H : HostTable) (p : Instance) (o : List ℕ) (J : Journal) (who : Instance) (row col height width : ℕ) (pixels w : List ℕ)
     → (own : Bool) → same who p ≡ own → Agrees H p o J (entry H J (Draw who row col height width pixels) w)
-unfolding tabs sets_of network
+unfolding tabs sets_of network puts_of requests_of
 draw_agrees H p o J who row col height width pixels w true own =
     let here : who ≡ p = same-true who p own in
     record {
@@ -163,6 +159,6 @@ draw_agrees H p o J who row col height width pixels w true own =
       mine = rw own refl;
     }
 draw_agrees H p o J who row col height width pixels w false other = record {
-  told = rw other (draw_told p (life_of H J who) (draw_breaks row col height width pixels));
+  told = rw other (answer_told p (life_of H J who) (draw_breaks row col height width pixels));
   mine = rw other refl;
 }

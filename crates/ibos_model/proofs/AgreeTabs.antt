@@ -14,9 +14,10 @@ use Rattle.ibos_model.specs.Focus.{focus_of}
 use Rattle.ibos_model.specs.Tabs.{Tabs, tabs, Opens, Moves, Ends, Life, Unborn, Alive, Gone, changes, changed_by, opening, end, leave, if_ok, next_in, life_with, life_of, origin_in, origin_with}
 use Rattle.ibos_model.specs.Jars.{sets_of}
 use Rattle.ibos_model.specs.Network.{network}
+use Rattle.ibos_model.specs.Stored.{puts_of, requests_of}
 use Rattle.ibos_model.specs.Outcomes.{accepted, denied, admitted, open_outcome, start_outcome, switch_outcome, close_outcome, go_outcome, out}
 use Rattle.ibos_model.specs.Facts.{change_facts, Suits}
-use Rattle.ibos_model.specs.Gives.{Mine, own_out, own_after, life_after_go}
+use Rattle.ibos_model.specs.Gives.{Mine, away_with, own_out, own_after, life_after_go}
 use Rattle.ibos_model.specs.Delivered.{told}
 use Rattle.ibos_model.proofs.Equalities.{same-true, same-refl}
 use Rattle.ibos_model.proofs.ChangesDue.{IsSound, changes_allowed}
@@ -48,13 +49,13 @@ go_items Alive t who (Err rule) = refl
 go_items Alive t who (Ok page) = grind (arith, nat_tests)
 
 pub start_agrees : (H : HostTable) (p : Instance) (o : List ℕ) (J : Journal) (tab : ℕ) (url w : List ℕ) → IsSound (tabs H J) → Agrees H p o J (entry H J (Start tab url) w)
-unfolding tabs sets_of network
+unfolding tabs sets_of network puts_of requests_of
 start_agrees H p o J tab url w sound =
     let law = changes_told H p o (tabs H J) (held_of H p o J) (changes H (tabs H J) (focus_of J) (is_ok (out H J (Start tab url)).head) (Start tab url)) sound (changes_allowed H J (Start tab url) sound) in
     record { told = ap (told (PageOf p)) (start_items ((tabs H J).live tab) (tabs H J) tab (allowed H url)) ∙ law.0; mine = law.1 }
 
 pub close_agrees : (H : HostTable) (p : Instance) (o : List ℕ) (J : Journal) (tab : ℕ) (w : List ℕ) → IsSound (tabs H J) → Agrees H p o J (entry H J (Close tab) w)
-unfolding tabs sets_of network
+unfolding tabs sets_of network puts_of requests_of
 close_agrees H p o J tab w sound =
     let law = changes_told H p o (tabs H J) (held_of H p o J) (changes H (tabs H J) (focus_of J) (is_ok (out H J (Close tab)).head) (Close tab)) sound (changes_allowed H J (Close tab) sound) in
     record { told = ap (told (PageOf p)) (close_items ((tabs H J).live tab)) ∙ law.0; mine = law.1 }
@@ -65,13 +66,13 @@ switch_items (Some who) = refl
 switch_items None = refl
 
 pub switch_agrees : (H : HostTable) (p : Instance) (o : List ℕ) (J : Journal) (tab : ℕ) (w : List ℕ) → Agrees H p o J (entry H J (Switch tab) w)
-unfolding tabs sets_of network
+unfolding tabs sets_of network puts_of requests_of
 switch_agrees H p o J tab w = record { told = ap (told (PageOf p)) (switch_items ((tabs H J).live tab)); mine = refl }
 
 -- ---- acts of instances
 
 go_other : (H : HostTable) (p : Instance) (o : List ℕ) (J : Journal) (who : Instance) (url w : List ℕ) → IsSound (tabs H J) → same who p ≡ false → Agrees H p o J (entry H J (Go who url) w)
-unfolding tabs sets_of network
+unfolding tabs sets_of network puts_of requests_of
 go_other H p o J who url w sound other =
     let law = changes_told H p o (tabs H J) (held_of H p o J) (changes H (tabs H J) (focus_of J) (is_ok (out H J (Go who url)).head) (Go who url)) sound (changes_allowed H J (Go who url) sound) in
     record { told = rw other (ap (told (PageOf p)) (go_items (life_of H J who) (tabs H J) who (allowed H url)) ∙ law.0); mine = rw other law.1 }
@@ -100,7 +101,7 @@ own_go_alive_silent p t page (Err rule) differs = refl
 own_go_alive_silent p t page (Ok to) differs = grind (arith, nat_tests)
 
 own_go_alive_mine : (p : Instance) (o : List ℕ) (t : Tabs) (held : Mine) (page : Page) (r : Result Page Rule) → t.page p ≡ Some page → t.is_gone p ≡ false → page.origin ≡ o → same (next_in t p.tab) p ≡ false
-    → mine_in (changed_by t (if_ok (is_ok (go_outcome p page.origin (next_in t p.tab) r).head) (leave t p r))) p held ≡ record held { life = life_after_go p o r }
+    → mine_in (changed_by t (if_ok (is_ok (go_outcome p page.origin (next_in t p.tab) r).head) (leave t p r))) p held ≡ record held { life = life_after_go p o r; away = away_with (life_after_go p o r) held.away }
 own_go_alive_mine p o t held page (Err rule) is gone origin differs = rw (is, gone) refl
 own_go_alive_mine p o t held page (Ok to) is gone origin differs =
     let here : bytes_eq to.origin page.origin ≡ bytes_eq to.origin o = ap (bytes_eq to.origin) origin in
@@ -110,7 +111,7 @@ own_go_alive_mine p o t held page (Ok to) is gone origin differs =
     next : Instance
     next = next_in t p.tab
 
-    by_origin : (b room : Bool) → mine_in (changed_by t (if_ok (is_ok (if b then accepted (Moved p to.url ∷ []) else if room then accepted (Ended p ∷ Opened next to.url ∷ []) else denied U3).head) (if b then Moves p to.url ∷ [] else Ends p ∷ Opens next to ∷ []))) p held ≡ record held { life = if b then Alive else if room then Gone else Alive }
+    by_origin : (b room : Bool) → mine_in (changed_by t (if_ok (is_ok (if b then accepted (Moved p to.url ∷ []) else if room then accepted (Ended p ∷ Opened next to.url ∷ []) else denied U3).head) (if b then Moves p to.url ∷ [] else Ends p ∷ Opens next to ∷ []))) p held ≡ record held { life = if b then Alive else if room then Gone else Alive; away = away_with (if b then Alive else if room then Gone else Alive) held.away }
     by_origin true room = rw (is, gone) refl
     by_origin false true = rw (differs, same-refl p, is) refl
     by_origin false false = rw (is, gone) refl
@@ -131,7 +132,7 @@ own_go H p o t url held (Some page) false sound is is_gone suits =
 
 pub go_agrees : (H : HostTable) (p : Instance) (o : List ℕ) (J : Journal) (who : Instance) (url w : List ℕ) → IsSound (tabs H J) → Suits H p o J
     → (own : Bool) → same who p ≡ own → Agrees H p o J (entry H J (Go who url) w)
-unfolding tabs sets_of network
+unfolding tabs sets_of network puts_of requests_of
 go_agrees H p o J who url w sound suits false other = go_other H p o J who url w sound other
 go_agrees H p o J who url w sound suits true own =
     let here : p ≡ who = sym (same-true who p own) in

@@ -13,7 +13,7 @@ use Rattle.ibos_origin.specs.Pages.{Page}
 use Rattle.ibos_model.specs.Journal.{same}
 use Rattle.ibos_model.specs.Tabs.{Tabs, Change, Opens, Moves, Ends, changed, changed_by, life_with}
 use Rattle.ibos_model.specs.Facts.{Opened, IsEnded, when, change_fact, change_facts}
-use Rattle.ibos_model.specs.Gives.{Mine, deliveries, mine_after, gives_from, mine_from}
+use Rattle.ibos_model.specs.Gives.{Mine, away_with, deliveries, mine_after, gives_from, mine_from}
 use Rattle.ibos_model.specs.Delivered.{Told, told}
 use Rattle.ibos_kinds.specs.Parties.{is_to}
 use Rattle.ibos_model.proofs.Equalities.{same-true}
@@ -26,9 +26,9 @@ item_of (Opens who page) = ItemOpened who page.url
 item_of (Moves who url) = Moved who url
 item_of (Ends who) = Ended who
 
--- what is counted: held, but for the life
+-- what is counted: held, but for the life, and the buffers that are away after it
 abbrev pub mine_with : Option Page → Bool → Mine → Mine
-mine_with page gone held = record held { life = life_with page gone }
+mine_with page gone held = record held { life = life_with page gone; away = away_with (life_with page gone) held.away }
 
 abbrev pub mine_in : Tabs → Instance → Mine → Mine
 mine_in t p held = mine_with (t.page p) (t.is_gone p) held
@@ -40,7 +40,8 @@ change_told H p o m (Ends who) = grind (arith, nat_tests, same-true who p)
 
 mine_opened : (H : HostTable) (p : Instance) (o url : List ℕ) (here : Bool) (page : Page) (old : Option Page) (gone : Bool) (held : Mine) → (here ≡ true → gone ≡ false)
     → mine_with (if here then Some page else old) gone held ≡ mine_from H p o (mine_with old gone held) (when here (Opened url))
-mine_opened H p o url true page old gone held new = rw (new refl) refl
+mine_opened H p o url true page None gone held new = rw (new refl) refl
+mine_opened H p o url true page (Some x) gone held new = rw (new refl) refl
 mine_opened H p o url false page old gone held new = refl
 
 mine_ended : (H : HostTable) (p : Instance) (o : List ℕ) (here : Bool) (page : Option Page) (gone : Bool) (held : Mine) → (here ≡ true → page ≢ None)

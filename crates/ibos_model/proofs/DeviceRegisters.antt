@@ -5,10 +5,11 @@ use Rattle.std.specs.Int.{bytes_high_first, bytes_low_first}
 use Rattle.std.proofs.lemmas.Bool.Decides.{nat_tests}
 use Rattle.std.proofs.lemmas.Nat.{mod_below}
 use Rattle.ibos_kinds.specs.declared.act.Act.{Act}
-use Rattle.ibos_kinds.specs.declared.act.Act.TheVariants.{RegRead, RegWrite, RxPost, RxBell, WireIn}
+use Rattle.ibos_kinds.specs.declared.act.Act.TheVariants.{RegRead, RegWrite, RxPost, RxBell, WireIn, TxPost, TxBell, WireOut}
 use Rattle.ibos_kinds.specs.declared.names.Local.{Local}
 use Rattle.ibos_kinds.specs.declared.names.Verdict.{Verdict}
 use Rattle.ibos_kinds.specs.declared.names.Verdict.TheVariants.{Filtered, Missed, Heard}
+use Rattle.ibos_kinds.specs.declared.outcome.Item.TheVariants.{Idle, SentIs}
 use Rattle.ibos_kinds.specs.declared.rule.Rule.{Rule}
 use Rattle.ibos_kinds.specs.declared.rule.Rule.TheVariants.{M1}
 use Rattle.ibos_nic.specs.declared.reg.Reg.{Reg}
@@ -17,17 +18,16 @@ use Rattle.ibos_nic.specs.Bits.{overrun_cause}
 use Rattle.ibos_nic.specs.Device.{is_let_in, is_for_us}
 use Rattle.ibos_nic.specs.Parts.{part_of, reg_at}
 use Rattle.ibos_nic.specs.Permits.{MayWrite}
-use Rattle.ibos_nic.specs.Registers.{after_heard, after_read, after_write, distance_among, is_enabled, slot_among, slot_behind, with_cause, with_reg}
+use Rattle.ibos_nic.specs.Registers.{after_heard, after_read, after_sent, after_write, distance_among, is_enabled, slot_among, slot_behind, with_cause, with_reg}
 use Rattle.ibos_nic.specs.Rules.{of_reg as of_reg_rule, write_rule, write_rule_of}
 use Rattle.ibos_origin.specs.Hosts.{HostTable}
 use Rattle.ibos_model.specs.Journal.{Entry, Journal, is_ok}
-use Rattle.ibos_model.specs.Laws.{AreFirst, AreOrdered, AreTheDevices, IsOrdered, IsTheDevices}
+use Rattle.ibos_model.specs.Laws.{AreFirst, AreOrdered, AreTheDevices, IsOrdered, IsSentByTheDevice, IsTheDevices}
 use Rattle.ibos_model.specs.Network.{network}
-use Rattle.ibos_model.specs.Outcomes.{answer, out}
-use Rattle.ibos_model.specs.Registers.{arrived_at, read_at, registers_by, registers_of, written_at}
-use Rattle.ibos_model.specs.Rings.{Rings, address_high, address_low, arrived, mac_byte, of_reg, posted, read_from, register, values_in, verdict_at, written_to}
-use Rattle.ibos_model.proofs.EntriesAgree.{entry}
-use Rattle.ibos_model.proofs.Isolated.{as_entry}
+use Rattle.ibos_model.specs.Outcomes.{accepted, answer, out}
+use Rattle.ibos_model.specs.Registers.{arrived_at, read_at, registers_by, registers_of, sent_at, written_at}
+use Rattle.ibos_model.specs.Rings.{Rings, address_high, address_low, arrived, can_send, mac_byte, next_send, of_reg, posted, read_from, register, send_posted, sent_by, sent_one, values_in, verdict_at, written_to}
+use Rattle.ibos_model.proofs.Entries.{as_entry, entry}
 use Rattle.ibos_model.proofs.RingCounts.{WritesMay}
 
 -- what ibos_nic says of slots
@@ -83,7 +83,7 @@ write_are reach local r ws value Tdbah Tdbah may is = sym may.0
 write_are reach local r ws value Tdbah x may is = refl
 write_are reach local r ws value Rdh Rdh may is = ap (λ n. n % 64) (is.receive.unused may.1) ∙ sym may.0
 write_are reach local r ws value Rdh x may is = refl
-write_are reach local r ws value Tdh Tdh may is = sym may.0
+write_are reach local r ws value Tdh Tdh may is = ap (λ n. n % 64) (is.transmit.unused may.1) ∙ sym may.0
 write_are reach local r ws value Tdh x may is = refl
 write_are reach local r ws value Rdt Rdt may is = reach 64 r.receive.rung value (omega arith) may.0
 write_are reach local r ws value Rdt x may is = refl
@@ -118,6 +118,18 @@ heard_is go local r Rdh = sym (go 64 r.heard)
 heard_is go local r Icr = refl
 heard_is go local r x = refl
 
+-- ---- sends
+
+sent_is : SlotsGoOn → (local : Local) (r : Rings) (x : Reg) → register local (sent_one r) x ≡ after_sent (register local r) x
+sent_is go local r Tdh = sym (go 64 r.sent)
+sent_is go local r Icr = refl
+sent_is go local r x = refl
+
+sends_are : SlotsGoOn → (local : Local) (r : Rings) (x : Reg) (can : Bool) → let outcome = (if can then accepted (SentIs (next_send r) ∷ []) else accepted (Idle ∷ [])) in
+    register local (if is_ok outcome.head then sent_by outcome.items r else r) x ≡ (if is_ok outcome.head then sent_at outcome.items (register local r) else register local r) x
+sends_are go local r x true = sent_is go local r x
+sends_are go local r x false = refl
+
 -- ---- the law of one entry
 
 entry_is : WritesMay → SlotsReach → SlotsGoOn → (H : HostTable) (J : Journal) (a : Act) (w : List ℕ) (x : Reg) → IsOrdered (network J).rings (network J).pending
@@ -142,6 +154,16 @@ entry_is may reach go H J (WireIn frame) w x ordered = by_verdict (verdict_at H.
     by_verdict Filtered = refl
     by_verdict Missed = missed_is H.local (network J).rings (is_enabled (network J).rings.receive.control) x
     by_verdict Heard = heard_is go H.local (network J).rings x
+entry_is may reach go H J (TxPost slot send) w x ordered =
+    let r = (network J).rings in
+    post_is H.local r (send_posted send r) (is_ok (out H J (TxPost slot send)).head) x (posted_is r x)
+  where
+    posted_is : (r : Rings) (x : Reg) → register H.local (send_posted send r) x ≡ register H.local r x
+    posted_is r Ctrl = refl
+    posted_is r x = refl
+entry_is may reach go H J TxBell w Ctrl ordered = refl
+entry_is may reach go H J TxBell w x ordered = refl
+entry_is may reach go H J WireOut w x ordered = sends_are go H.local (network J).rings x (can_send (network J).rings)
 entry_is may reach go H J other w x ordered = refl
 
 pub entries_are : WritesMay → SlotsReach → SlotsGoOn → AreOrdered → AreTheDevices
@@ -200,3 +222,12 @@ verdict_is ordered H J frame run =
     let is = ordered H J run in
     let full : (r.heard % 64 == r.receive.rung % 64) ≡ (r.heard == r.receive.rung) = same_slots r.heard r.receive.rung is.receive.passed (omega (arith, is.receive.rung, is.receive.posted, is.receive.taken)) in
     rw (full, address_is H.local.mac) (by_tests (is_let_in (bytes_high_first 6 H.local.mac) frame) (is_enabled r.receive.control) (r.heard == r.receive.rung))
+
+-- ---- frames that go out
+
+pub sent_by_the_device : AreOrdered → IsSentByTheDevice
+sent_by_the_device ordered H J run =
+    let r = (network J).rings in
+    let is = ordered H J run in
+    let all : (r.sent % 64 == r.transmit.rung % 64) ≡ (r.sent == r.transmit.rung) = same_slots r.sent r.transmit.rung is.transmit.passed (omega (arith, is.transmit.rung, is.transmit.posted, is.transmit.taken)) in
+    ap (λ same. is_enabled r.transmit.control && not same) (sym all)

@@ -12,14 +12,16 @@ use Rattle.ibos_model.specs.Tabs.{tabs, Unborn, life_with, origin_with}
 use Rattle.ibos_model.specs.Jars.{sets_of}
 use Rattle.ibos_model.specs.Network.{network}
 use Rattle.ibos_model.specs.OwnBell.{is_for}
-use Rattle.ibos_model.specs.Outcomes.{admitted, out}
+use Rattle.ibos_model.specs.Stored.{puts_of, requests_of}
+use Rattle.ibos_model.specs.Outcomes.{admitted}
 use Rattle.ibos_model.specs.Facts.{Fact, Own, facts_at}
 use Rattle.ibos_model.specs.Gives.{Mine, own_out, deliveries, mine_after, gives_from}
 use Rattle.ibos_model.specs.Delivered.{Delivery, Answer, told, told_at}
 use Rattle.ibos_model.proofs.ChangesTold.{mine_in}
+pub use Rattle.ibos_model.proofs.Entries.{entry}
 use Rattle.ibos_model.proofs.Inductions.{Law, OneMore}
 
--- what the journal says besides the life
+-- what the journal says, whatever the life
 abbrev pub held_of : HostTable → Instance → List ℕ → Journal → Mine
 held_of H p o J = record {
   life = Unborn;
@@ -27,6 +29,10 @@ held_of H p o J = record {
   flows = (network J).flows p;
   unread = (network J).unread p;
   pending = filter (is_for H.local p) (network J).pending;
+  buffers = (network J).buffers p;
+  away = (network J).away p;
+  objects = puts_of H J o;
+  requests = requests_of J p;
 }
 
 -- what is counted for p, read from the journal
@@ -45,9 +51,6 @@ own_law H p o = record {
 
 abbrev pub Agrees : HostTable → Instance → List ℕ → Journal → Entry → Type 0
 Agrees H p o J e = OneMore (own_law H p o) J e
-
-abbrev pub entry : HostTable → Journal → Act → List ℕ → Entry
-entry H J a w = record { act = a; outcome = out H J a; written = w }
 
 -- what an own act tells its instance
 abbrev pub answers : Instance → Outcome → List Delivery

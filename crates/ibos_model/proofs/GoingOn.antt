@@ -68,11 +68,15 @@ made_written : (h : Bool) (W : List (List ℕ)) → IsWritten h (written_by h W)
 made_written true W = tt
 made_written false W = refl
 
+-- the entry that a run makes follows
+pub made_follows : (H : HostTable) (J : Journal) (W : List (List ℕ)) (a : Act) → Follows H J (entry_of H J W a)
+made_follows H J W a = record { outcome = refl; written = made_written (is_heard (out H J a)) W }
+
 is_run_from : (H : HostTable) (J : Journal) (A : List Act) (W : List (List ℕ)) → IsRun H J → IsRun H (run_from H J A W)
 is_run_from H J [] W is = is
 is_run_from H J (a ∷ A) W is =
     is_run_from H (entry_of H J W a ∷ J) A (left_by (is_heard (out H J a)) W)
-    (record { outcome = refl; written = made_written (is_heard (out H J a)) W }, is)
+    (made_follows H J W a, is)
 
 pub is_run : AreRuns
 is_run H A W = is_run_from H [] A W tt

@@ -11,6 +11,10 @@ pub mod AgreeCookies
 pub mod AgreeInput
 pub mod Bells
 pub mod AgreeFrames
+pub mod AgreeSends
+pub mod StoredSteps
+pub mod AgreeStored
+pub mod Entries
 pub mod GoingOn
 pub mod Isolated
 pub mod Unborn
@@ -24,4 +28,8 @@ pub mod ReadFrames
 pub mod Chrome
 pub mod BarOrigins
 pub mod PageEndpoints
+pub mod RightSends
+pub mod SentFrames
+pub mod AwayBuffers
+pub mod PostedSends
 pub mod Denials

@@ -38,7 +38,8 @@ suits_by o (Some x) new was_gone is_gone stays suits there =
     started_born true h = cc
     started_born false h = cc
 
-page_after : (H : HostTable) (J : Journal) (e : Entry) (p : Instance) (x : Page) → IsRun H (e ∷ J) → (tabs H J).page p ≡ Some x → (tabs H (e ∷ J)).page p ≡ Some x
+-- an instance keeps its page
+pub page_after : (H : HostTable) (J : Journal) (e : Entry) (p : Instance) (x : Page) → IsRun H (e ∷ J) → (tabs H J).page p ≡ Some x → (tabs H (e ∷ J)).page p ≡ Some x
 unfolding tabs
 page_after H J e p x run is =
     let sound : IsSound (tabs H J) = tabs_sound H J run.1 in

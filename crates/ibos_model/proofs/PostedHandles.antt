@@ -1,14 +1,15 @@
 -- Receive buffers come back under the handles of their posts, one turn higher.
-use Rattle.std.proofs.Common.{◌≡◌, ◌≢◌, ℕ, ◌+◌, ◌-◌, zero, suc, List, [], ◌∷◌, ◌++◌, false, Option, Some, None, refl, sym, ◌∙◌, ap, subst, arith, length, append-nil, drop, take, map}
+use Rattle.std.proofs.Common.{◌≡◌, ◌≢◌, ℕ, ◌+◌, ◌-◌, zero, suc, List, [], ◌∷◌, ◌++◌, Bool, true, false, Option, Some, None, refl, sym, ◌∙◌, ap, subst, arith, length, append-nil, drop, take, map}
 use Rattle.std.specs.Prelude.{if◌then◌else◌, slice_index}
 use Rattle.std.specs.List.{list_any}
 use Rattle.std.proofs.lemmas.Bool.Decides.{nat_tests}
 use Rattle.std.proofs.lemmas.List.{drop-append-le, drop-drop, drop-map, get_or-set_other, length-append, map-append}
 use Rattle.ibos_kinds.specs.declared.act.Act.{Act}
-use Rattle.ibos_kinds.specs.declared.act.Act.TheVariants.{RegRead, RegWrite, RxPost, RxBell, WireIn}
+use Rattle.ibos_kinds.specs.declared.act.Act.TheVariants.{RegRead, RegWrite, RxPost, RxBell, WireIn, TxPost, TxBell, WireOut}
 use Rattle.ibos_kinds.specs.declared.names.Handle.{Handle}
 use Rattle.ibos_kinds.specs.declared.names.Verdict.{Verdict}
 use Rattle.ibos_kinds.specs.declared.names.Verdict.TheVariants.{Filtered, Missed, Heard}
+use Rattle.ibos_kinds.specs.declared.outcome.Item.TheVariants.{Idle, SentIs}
 use Rattle.ibos_kinds.specs.declared.rule.Rule.{Rule}
 use Rattle.ibos_pool.specs.declared.name.Name.{Name}
 use Rattle.ibos_pool.specs.Names.{same_name}
@@ -19,12 +20,11 @@ use Rattle.ibos_origin.specs.Hosts.{HostTable}
 use Rattle.ibos_model.specs.Journal.{Entry, Journal, is_ok}
 use Rattle.ibos_model.specs.Laws.{AreLentInOrder, AreOrdered, IsOrdered}
 use Rattle.ibos_model.specs.Network.{network}
-use Rattle.ibos_model.specs.Outcomes.{answer, out}
+use Rattle.ibos_model.specs.Outcomes.{accepted, answer, out}
 use Rattle.ibos_model.specs.Posts.{next_turn, posts}
-use Rattle.ibos_model.specs.Rings.{Rings, arrived, belled, handle_after, posted, turns_after, verdict_at}
+use Rattle.ibos_model.specs.Rings.{Rings, arrived, belled, can_send, handle_after, next_send, posted, returned, send_posted, sent_by, turns_after, verdict_at}
 use Rattle.ibos_model.specs.Runs.{IsRun}
-use Rattle.ibos_model.proofs.EntriesAgree.{entry}
-use Rattle.ibos_model.proofs.Isolated.{as_entry}
+use Rattle.ibos_model.proofs.Entries.{as_entry, entry}
 use Rattle.ibos_model.proofs.RegisterActs.{Claim, missed_leaves, reads_leave, writes_leave}
 use Rattle.ibos_model.proofs.RingCounts.{PostsMay}
 
@@ -79,7 +79,7 @@ abbrev Posted : Rings → List Handle → Type 0
 Posted r hs = IsPosted r.receive.posted r.receive.taken r.names r.turns hs
 
 abbrev IsPostedWith : List Handle → Claim
-IsPostedWith hs heard count taken names turns = IsPosted count taken names turns hs
+IsPostedWith hs heard count taken names turns posts sent = IsPosted count taken names turns hs
 
 arrive_keeps : (r : Rings) (hs : List Handle) (verdict : Verdict) → Posted r hs → Posted (arrived verdict r) hs
 arrive_keeps r hs Filtered is = is
@@ -120,6 +120,17 @@ bell_keeps r hs is =
       apart = apart_drop count r.names is.apart;
     }
 
+-- ---- sends
+
+send_keeps : (r : Rings) (hs : List Handle) (send : ℕ) (ok : Bool) → Posted r hs → Posted (if ok then send_posted send r else r) hs
+send_keeps r hs send true is = is
+send_keeps r hs send false is = is
+
+sent_keeps : (r : Rings) (hs : List Handle) (can : Bool) → Posted r hs → let outcome = (if can then accepted (SentIs (next_send r) ∷ []) else accepted (Idle ∷ [])) in
+    Posted (if is_ok outcome.head then sent_by outcome.items r else r) hs
+sent_keeps r hs true is = is
+sent_keeps r hs false is = is
+
 -- ---- runs
 
 entry_keeps : PostsMay → (H : HostTable) (J : Journal) (a : Act) (w : List ℕ) → IsOrdered (network J).rings (network J).pending → Posted (network J).rings (posts J)
@@ -137,6 +148,11 @@ entry_keeps may H J RxBell w ordered is =
 entry_keeps may H J (WireIn frame) w ordered is =
     let verdict = verdict_at H.local (network J).rings frame in
     subst (Posted (arrived verdict (network J).rings)) (sym (append-nil (posts J))) (arrive_keeps (network J).rings (posts J) verdict is)
+entry_keeps may H J (TxPost slot send) w ordered is =
+    subst (Posted (network (entry H J (TxPost slot send) w ∷ J)).rings) (sym (append-nil (posts J))) (send_keeps (network J).rings (posts J) send (is_ok (out H J (TxPost slot send)).head) is)
+entry_keeps may H J TxBell w ordered is = subst (Posted (returned (network J).rings)) (sym (append-nil (posts J))) is
+entry_keeps may H J WireOut w ordered is =
+    subst (Posted (network (entry H J WireOut w ∷ J)).rings) (sym (append-nil (posts J))) (sent_keeps (network J).rings (posts J) (can_send (network J).rings) is)
 entry_keeps may H J other w ordered is = subst (Posted (network J).rings) (sym (append-nil (posts J))) is
 
 posted_is : PostsMay → AreOrdered → (H : HostTable) (J : Journal) → IsRun H J → Posted (network J).rings (posts J)

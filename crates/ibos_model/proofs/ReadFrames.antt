@@ -13,9 +13,8 @@ use Rattle.ibos_model.specs.Outcomes.{admitted, done_outcome, out}
 use Rattle.ibos_model.specs.Posts.{bell_frames, done_count, frames_for}
 use Rattle.ibos_model.specs.Runs.{IsRun}
 use Rattle.ibos_model.specs.Tabs.{Life, Unborn, Alive, Gone, life_of}
-use Rattle.ibos_model.proofs.EntriesAgree.{entry}
+use Rattle.ibos_model.proofs.Entries.{as_entry, entry}
 use Rattle.ibos_model.proofs.Equalities.{same-true}
-use Rattle.ibos_model.proofs.Isolated.{as_entry}
 
 -- what is unread, of all frames given, where it is done with so many
 record IsLeft (unread given : List (List ℕ)) (count : ℕ) : Type 0 where

@@ -13,12 +13,13 @@ use Rattle.ibos_nic.specs.Parts.{part_of}
 use Rattle.ibos_nic.specs.Rings.{values_written}
 use Rattle.ibos_model.specs.Rings.{Rings, of_reg, read_from, values_in, with_values, written_to}
 
--- a statement of what these acts leave: how many were heard, posted and taken back, the names and their turns
+-- a statement of what these acts leave: how many were heard, posted and taken back, the names and their turns, and the sends that were
+-- posted, with how many of them were sent
 abbrev pub Claim : Type 1
-Claim = ℕ → ℕ → ℕ → List Name → List ℕ → Type 0
+Claim = ℕ → ℕ → ℕ → List Name → List ℕ → List ℕ → ℕ → Type 0
 
 abbrev pub Holds : Claim → Rings → Type 0
-Holds P r = P r.heard r.receive.posted r.receive.taken r.names r.turns
+Holds P r = P r.heard r.receive.posted r.receive.taken r.names r.turns r.posts r.sent
 
 part_leaves : (P : Claim) (r : Rings) (value : ℕ) (ring : Ring) (part : Part) → Holds P r → Holds P (with_values ring (values_written part value (values_in r ring)) r)
 part_leaves P r value Receive Tail is = is

@@ -8,7 +8,7 @@ use Rattle.ibos_kinds.specs.declared.outcome.Head.TheVariants.{Ok, Denied}
 use Rattle.ibos_kinds.specs.declared.act.Act.TheVariants.{WireIn}
 use Rattle.ibos_kinds.specs.declared.names.Verdict.TheVariants.{Heard}
 use Rattle.ibos_kinds.specs.declared.outcome.Item.{Item}
-use Rattle.ibos_kinds.specs.declared.outcome.Item.TheVariants.{VerdictIs}
+use Rattle.ibos_kinds.specs.declared.outcome.Item.TheVariants.{SentIs, VerdictIs}
 use Rattle.ibos_kinds.specs.declared.outcome.Outcome.{Outcome}
 
 -- an act, what came of it, and what the device wrote where a frame was heard
@@ -37,6 +37,7 @@ pub data Kind : Type 0 where
 
 abbrev pub kind_in : List Item → Kind
 kind_in (VerdictIs Heard ∷ items) = Hears
+kind_in (SentIs send ∷ items) = Sends
 kind_in items = Nothing
 
 abbrev pub kind_of : Outcome → Kind
@@ -49,6 +50,14 @@ hears other = false
 -- the frame of the act was heard
 abbrev pub is_heard : Outcome → Bool
 is_heard outcome = hears (kind_of outcome)
+
+abbrev pub transmits : Kind → Bool
+transmits Sends = true
+transmits other = false
+
+-- a frame was sent
+abbrev pub is_sent : Outcome → Bool
+is_sent outcome = transmits (kind_of outcome)
 
 -- one more of a list, where the frame was heard
 abbrev pub if_heard : {A : Type 0} → Outcome → A → List A

@@ -6,6 +6,7 @@ pub mod Jars
 pub mod Screen
 pub mod Rings
 pub mod Network
+pub mod Stored
 pub mod Registers
 pub mod Posts
 pub mod Logs

@@ -4,7 +4,8 @@ use Rattle.ibos_kinds.specs.declared.act.Act.{Act}
 use Rattle.ibos_kinds.specs.declared.outcome.Outcome.{Outcome}
 use Rattle.ibos_nic.specs.declared.log.LogEntry.{LogEntry}
 use Rattle.ibos_nic.specs.declared.log.LogEntry.TheVariants.{In, Out}
-use Rattle.ibos_model.specs.Journal.{Kind, Hears, Sends, Nothing, frame_of, is_heard, kind_of}
+use Rattle.ibos_model.specs.Journal.{Kind, Hears, Sends, Nothing, frame_of, is_heard, is_sent}
+use Rattle.ibos_model.specs.Journal.{kind_of}
 
 -- what the device wrote for the frames that came in
 abbrev pub written_in : List LogEntry → List (List ℕ)
@@ -43,7 +44,8 @@ abbrev pub log_after : Outcome → List ℕ → List ℕ → List ℕ → List L
 log_after outcome = log_by (kind_of outcome)
 
 -- The log where an act of that outcome ran out of memory: as it was, or with the one entry that the
--- act brings.
-abbrev pub Loses : Outcome → Act → List LogEntry → List LogEntry → Type 0
-Loses outcome act log log' = (log' ≡ log)
-    ⊎ ((w : List ℕ) × (is_heard outcome ≡ true) × (log' ≡ In (frame_of act) w ∷ log))
+-- act brings. b is the frame that it sends, if it sends one.
+abbrev pub Loses : Outcome → Act → List ℕ → List LogEntry → List LogEntry → Type 0
+Loses outcome act b log log' = (log' ≡ log)
+    ⊎ (((w : List ℕ) × (is_heard outcome ≡ true) × (log' ≡ In (frame_of act) w ∷ log))
+    ⊎ ((is_sent outcome ≡ true) × (log' ≡ Out b ∷ log)))

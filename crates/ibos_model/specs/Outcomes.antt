@@ -1,5 +1,6 @@
 -- The outcome of each act: its first broken rule, or its items.
-use Rattle.std.specs.Prelude.{ℕ, ◌+◌, ◌-◌, zero, suc, List, [], ◌∷◌, not, nat_lt, Ok, Err, Result}
+use Rattle.std.specs.Prelude.{ℕ, ◌+◌, ◌-◌, zero, suc, List, [], ◌∷◌, Bool, not, nat_lt, length}
+use Rattle.std.specs.Prelude.{take, Ok, Err, Result}
 use Rattle.std.specs.Prelude.{Option, Some, None, bytes_eq, if◌then◌else◌}
 use Rattle.ibos_kinds.specs.declared.names.Instance.{Instance}
 use Rattle.ibos_kinds.specs.declared.party.Party.{Party}
@@ -9,26 +10,36 @@ use Rattle.ibos_kinds.specs.declared.rule.Rule.{Rule}
 use Rattle.ibos_kinds.specs.declared.rule.Rule.TheVariants.{U1, U2, U3, U10, U12, P1, P2, N6}
 use Rattle.ibos_kinds.specs.declared.names.Endpoint.{Endpoint}
 use Rattle.ibos_kinds.specs.declared.names.Handle.{Handle}
+use Rattle.ibos_kinds.specs.declared.names.Local.{Local}
 use Rattle.ibos_kinds.specs.Flows.{Bound, bind_answer, close_answer}
 use Rattle.ibos_kinds.specs.Ports.{port_of}
 use Rattle.ibos_nic.specs.declared.reg.Reg.{Reg}
 use Rattle.ibos_nic.specs.Parts.{reg_at}
-use Rattle.ibos_nic.specs.Rules.{read_rule, write_rule, receive_rule}
+use Rattle.ibos_nic.specs.Rules.{read_rule, receive_rule, transmit_rule, write_rule}
 use Rattle.ibos_kinds.specs.declared.names.Key.{Key}
 use Rattle.ibos_kinds.specs.declared.names.Key.TheVariants.{Enter}
 use Rattle.ibos_kinds.specs.declared.act.Act.{Act}
 use Rattle.ibos_kinds.specs.declared.act.Act.TheVariants.{Start, Switch, Close, Press, Click, Look}
 use Rattle.ibos_kinds.specs.declared.act.Act.TheVariants.{Go, Draw, CookieSet, CookieGet}
 use Rattle.ibos_kinds.specs.declared.act.Act.TheVariants.{Bind, Unbind, Done, RegRead, RegWrite}
-use Rattle.ibos_kinds.specs.declared.act.Act.TheVariants.{RxPost, RxBell, WireIn}
+use Rattle.ibos_kinds.specs.declared.act.Act.TheVariants.{RxPost, RxBell, WireIn, Fill, Submit}
+use Rattle.ibos_kinds.specs.declared.act.Act.TheVariants.{TxPost, TxBell, WireOut, Put, Ask}
+use Rattle.ibos_kinds.specs.declared.act.Act.TheVariants.{StoreAnswer, StoreNone, StoreLose}
 use Rattle.ibos_kinds.specs.declared.outcome.Head.TheVariants.{Ok as Fine, Denied}
 use Rattle.ibos_kinds.specs.declared.outcome.Item.{Item}
 use Rattle.ibos_kinds.specs.declared.outcome.Item.TheVariants.{Opened, Moved, Ended, KeyTo, ClickTo}
 use Rattle.ibos_kinds.specs.declared.outcome.Item.TheVariants.{Cookies, RowIs, FlowIs}
-use Rattle.ibos_kinds.specs.declared.outcome.Item.TheVariants.{ValueIs, VerdictIs}
+use Rattle.ibos_kinds.specs.declared.outcome.Item.TheVariants.{ValueIs, VerdictIs, SendIs, Accepted}
+use Rattle.ibos_kinds.specs.declared.outcome.Item.TheVariants.{SentIs, Idle, VersionIs, StorePut}
+use Rattle.ibos_kinds.specs.declared.outcome.Item.TheVariants.{RequestIs, StoreAsk, Object}
+use Rattle.ibos_kinds.specs.declared.outcome.Item.TheVariants.{NoObject}
 use Rattle.ibos_kinds.specs.declared.outcome.Outcome.{Outcome}
 use Rattle.ibos_kinds.specs.declared.cookies.Cookie.{Cookie}
 use Rattle.ibos_kinds.specs.Cookies.{set_breaks, jar_text}
+use Rattle.ibos_kinds.specs.Labels.{ask_answer, label_answer, lose_answer, none_answer, put_answer}
+use Rattle.ibos_kinds.specs.Objects.{KeyObject, newest_in}
+use Rattle.ibos_kinds.specs.Requests.{Requests}
+use Rattle.ibos_kinds.specs.Sends.{fill_rule, submit_rule}
 use Rattle.ibos_kinds.specs.Keyboard.{key_breaks, key_byte}
 use Rattle.ibos_kinds.specs.Screens.{chrome_rows, content_rows, draw_breaks, is_on_screen}
 use Rattle.ibos_origin.specs.Hosts.{HostTable}
@@ -38,8 +49,10 @@ use Rattle.ibos_model.specs.Focus.{Focus, focus_of}
 use Rattle.ibos_model.specs.Tabs.{Tabs, Life, Unborn, Alive, Gone, tabs, next_in, life_of}
 use Rattle.ibos_model.specs.Tabs.{origin_in, origin_of, active_of}
 use Rattle.ibos_model.specs.Jars.{jar, sets_of}
-use Rattle.ibos_model.specs.Network.{bell_items, bound_to, endpoint_for, network}
-use Rattle.ibos_model.specs.Rings.{Rings, register, values_in, verdict_at}
+use Rattle.ibos_model.specs.Network.{Network, bell_items, bound_to, endpoint_for, network, over_in}
+use Rattle.ibos_model.specs.Network.{return_items, waits}
+use Rattle.ibos_model.specs.Rings.{Rings, can_send, next_send, register, values_in, verdict_at}
+use Rattle.ibos_model.specs.Stored.{objects_of, open_key, requests_of}
 use Rattle.ibos_model.specs.Screen.{screen, seen_row}
 
 abbrev pub denied : Rule → Outcome
@@ -169,6 +182,58 @@ read_outcome registers offset = value_outcome (read_rule offset)
 abbrev pub post_outcome : Rings → ℕ → Handle → Outcome
 post_outcome r slot handle = answer (receive_rule r.receive r.names r.turns slot handle)
 
+abbrev pub fill_outcome : Bool → ℕ → List ℕ → Outcome
+fill_outcome away place bytes = answer (fill_rule away place (length bytes))
+
+-- a send is accepted: the driver may post it, and its frame is written down
+abbrev pub submit_outcome : ℕ → Instance → List ℕ → Option Rule → Outcome
+submit_outcome number who bytes None = accepted (SendIs number ∷ Accepted number who bytes ∷ [])
+submit_outcome number who bytes (Some rule) = denied rule
+
+-- the frame is what the buffer begins with
+abbrev pub submitted_outcome : Local → ℕ → Instance → Bound → Bool → ℕ → List ℕ → Outcome
+submitted_outcome local number who bound away len buffer =
+    submit_outcome number who (take len buffer) (submit_rule local who (Some bound) away len buffer)
+
+abbrev pub send_post_outcome : Network → ℕ → ℕ → Outcome
+send_post_outcome n slot send =
+    answer (transmit_rule n.rings.transmit (waits n send) slot)
+
+abbrev pub wire_out_outcome : Rings → Outcome
+wire_out_outcome r = if can_send r then accepted (SentIs (next_send r) ∷ [])
+    else accepted (Idle ∷ [])
+
+-- an object is stored, in one version more; the storage process is told its label and its length
+abbrev pub version_outcome : Instance → List ℕ → List ℕ → List ℕ → Result ℕ Rule → Outcome
+version_outcome who origin key bytes (Ok version) =
+    accepted (VersionIs who version ∷ StorePut origin key version (length bytes) ∷ [])
+version_outcome who origin key bytes (Err rule) = denied rule
+
+abbrev pub put_outcome : Instance → List ℕ → List ℕ → List ℕ → List KeyObject → Outcome
+put_outcome who origin key bytes objects =
+    version_outcome who origin key bytes (put_answer key bytes objects)
+
+abbrev pub request_outcome : Instance → List ℕ → List ℕ → Result ℕ Rule → Outcome
+request_outcome who origin key (Ok request) =
+    accepted (RequestIs who request ∷ StoreAsk who request origin key ∷ [])
+request_outcome who origin key (Err rule) = denied rule
+
+abbrev pub ask_outcome : Instance → List ℕ → List ℕ → Requests → Outcome
+ask_outcome who origin key requests =
+    request_outcome who origin key (ask_answer key requests)
+
+abbrev pub object_outcome : Instance → ℕ → ℕ → Result (List ℕ) Rule → Outcome
+object_outcome who request version (Ok bytes) = accepted (Object who request version bytes ∷ [])
+object_outcome who request version (Err rule) = denied rule
+
+abbrev pub none_outcome : Instance → ℕ → Result Unit Rule → Outcome
+none_outcome who request (Ok x) = accepted (NoObject who request ∷ [])
+none_outcome who request (Err rule) = denied rule
+
+-- the key of a request of an instance that lives
+abbrev pub asked_key : HostTable → Journal → Instance → ℕ → Option (List ℕ)
+asked_key H J who request = open_key (life_of H J who) (requests_of J who) request
+
 -- what an instance has bound
 abbrev pub bound_in : HostTable → Journal → Instance → Bound
 bound_in H J who = bound_to (endpoint_for H (origin_of H J who)) ((network J).flows who)
@@ -197,6 +262,23 @@ act_outcome H J (RxPost slot handle) = post_outcome (network J).rings slot handl
 act_outcome H J RxBell = accepted (bell_items H (tabs H J) (network J))
 act_outcome H J (WireIn frame) =
     accepted (VerdictIs (verdict_at H.local (network J).rings frame) ∷ [])
+act_outcome H J (Fill who buffer place bytes) =
+    fill_outcome ((network J).away who buffer) place bytes
+act_outcome H J (Submit who buffer len) = submitted_outcome H.local (length (network J).sends) who
+    (bound_in H J who) ((network J).away who buffer) len ((network J).buffers who buffer)
+act_outcome H J (TxPost slot send) = send_post_outcome (network J) slot send
+act_outcome H J TxBell = accepted (return_items (over_in (tabs H J)) (network J))
+act_outcome H J WireOut = wire_out_outcome (network J).rings
+act_outcome H J (Put who key bytes) =
+    put_outcome who (origin_of H J who) key bytes (objects_of H J (origin_of H J who))
+act_outcome H J (Ask who key) = ask_outcome who (origin_of H J who) key (requests_of J who)
+act_outcome H J (StoreAnswer who request origin key version) = object_outcome who request version
+    (label_answer (asked_key H J who request) (origin_of H J who) origin key version
+    (newest_in (objects_of H J origin) key))
+act_outcome H J (StoreNone who request) =
+    none_outcome who request (none_answer (asked_key H J who request))
+act_outcome H J (StoreLose origin key version) =
+    unless_denied (lose_answer version (newest_in (objects_of H J origin) key))
 
 -- an instance acts while it lives, and all others always
 abbrev pub life_of_party : (Instance → Life) → Party → Life

@@ -1,7 +1,9 @@
 -- What the driver and the device made of the two rings, and of the other registers (Intel 8254x,
 -- chapter 13). It is counts and names: there is no memory, descriptor or buffer in it.
-use Rattle.std.specs.Prelude.{ℕ, ◌+◌, ◌-◌, ◌*◌, ◌/◌, ◌%◌, ◌^◌, ◌==◌, ◌||◌, List, [], ◌∷◌, ◌++◌}
-use Rattle.std.specs.Prelude.{Bool, not, bit_and, bit_or, min, map, take, drop, replicate, slice_index}
+use Rattle.std.specs.Prelude.{ℕ, ◌+◌, ◌-◌, ◌*◌, ◌/◌, ◌%◌, ◌^◌, ◌==◌, ◌&&◌, ◌||◌, List, [], ◌∷◌}
+use Rattle.std.specs.Prelude.{◌++◌}
+use Rattle.std.specs.Prelude.{Bool, not, bit_and, bit_or, min, map, take, drop, replicate}
+use Rattle.std.specs.Prelude.{slice_index}
 use Rattle.std.specs.Prelude.{Option, Some, None, if◌then◌else◌}
 use Rattle.std.specs.Int.{w32, bit_not, bytes_high_first}
 use Rattle.ibos_kinds.specs.declared.names.Handle.{Handle}
@@ -10,8 +12,9 @@ use Rattle.ibos_kinds.specs.declared.names.Verdict.{Verdict}
 use Rattle.ibos_kinds.specs.declared.names.Verdict.TheVariants.{Filtered, Missed, Heard}
 use Rattle.ibos_kinds.specs.declared.act.Act.{Act}
 use Rattle.ibos_kinds.specs.declared.act.Act.TheVariants.{RegRead, RegWrite, RxPost, RxBell, WireIn}
+use Rattle.ibos_kinds.specs.declared.act.Act.TheVariants.{TxPost, TxBell, WireOut}
 use Rattle.ibos_kinds.specs.declared.outcome.Item.{Item}
-use Rattle.ibos_kinds.specs.declared.outcome.Item.TheVariants.{VerdictIs}
+use Rattle.ibos_kinds.specs.declared.outcome.Item.TheVariants.{SentIs, VerdictIs}
 use Rattle.ibos_pool.specs.declared.name.Name.{Name}
 use Rattle.ibos_pool.specs.declared.name.Ring.{Ring}
 use Rattle.ibos_pool.specs.declared.name.Ring.TheVariants.{Receive, Transmit}
@@ -20,7 +23,7 @@ use Rattle.ibos_nic.specs.declared.reg.Reg.{Reg}
 use Rattle.ibos_nic.specs.declared.reg.Reg.TheVariants.{Ctrl, Status, Icr, Ims, Imc, Rctl, Tctl}
 use Rattle.ibos_nic.specs.declared.reg.Reg.TheVariants.{Rdbal, Rdbah, Rdlen, Rdh, Rdt, Tdbal, Tdbah}
 use Rattle.ibos_nic.specs.declared.reg.Reg.TheVariants.{Tdlen, Tdh, Tdt, Mpc, Ral0, Rah0}
-use Rattle.ibos_nic.specs.Bits.{overrun_cause, received_cause}
+use Rattle.ibos_nic.specs.Bits.{overrun_cause, received_cause, transmitted_cause}
 use Rattle.ibos_nic.specs.Device.{is_let_in}
 use Rattle.ibos_nic.specs.Parts.{part_of, reg_at}
 use Rattle.ibos_nic.specs.Registers.{is_enabled}
@@ -36,6 +39,10 @@ pub record Rings : Type 0 where
   pub turns : List ℕ
   -- how many frames the device heard
   pub heard : ℕ
+  -- the numbers of the sends that were posted, in the order of their posts
+  pub posts : List ℕ
+  -- how many frames the device sent
+  pub sent : ℕ
   -- the causes that are unmasked, those that rose since they were read, and the frames that were
   -- missed since that was read
   pub mask : ℕ
@@ -52,6 +59,8 @@ no_rings = record {
   names = [];
   turns = replicate 64 0;
   heard = 0;
+  posts = [];
+  sent = 0;
   mask = 0;
   causes = 0;
   missed = 0;
@@ -123,6 +132,42 @@ belled_by count r = record r {
 abbrev pub belled : Rings → Rings
 belled r = belled_by (r.heard - r.receive.taken) r
 
+-- ---- sends are posted, sent and taken back
+
+abbrev pub send_posted : ℕ → Rings → Rings
+send_posted send r = record r {
+  transmit = record r.transmit { posted = r.transmit.posted + 1 };
+  posts = r.posts ++ send ∷ [];
+}
+
+-- there is a frame to send: transmitting is enabled, and not all that was rung is sent
+abbrev pub can_send : Rings → Bool
+can_send r = is_enabled r.transmit.control && not (r.sent == r.transmit.rung)
+
+-- the device sends the frames in the order of their posts
+abbrev pub next_send : Rings → ℕ
+next_send r = slice_index r.posts r.sent
+
+abbrev pub sent_one : Rings → Rings
+sent_one r = record r { causes = bit_or r.causes transmitted_cause; sent = r.sent + 1 }
+
+abbrev pub sent_by : List Item → Rings → Rings
+sent_by (SentIs send ∷ items) r = sent_one r
+sent_by other r = r
+
+-- the sends whose frames went out, and whose buffers are not taken back
+abbrev pub outbound : Rings → List ℕ
+outbound r = take (r.sent - r.transmit.taken) (drop r.transmit.taken r.posts)
+
+-- a transmit bell takes back the buffers of all frames that were sent
+abbrev pub returned_by : ℕ → Rings → Rings
+returned_by count r = record r {
+  transmit = record r.transmit { taken = r.transmit.taken + count };
+}
+
+abbrev pub returned : Rings → Rings
+returned r = returned_by (r.sent - r.transmit.taken) r
+
 -- ---- frames arrive
 
 -- what becomes of a frame: it passes the filter for the own address or not, and there is a buffer
@@ -155,6 +200,9 @@ rings_by ok (RegWrite offset value) items r = if ok
 rings_by ok (RxPost slot handle) items r = if ok then posted handle r else r
 rings_by ok RxBell items r = if ok then belled r else r
 rings_by ok (WireIn frame) items r = if ok then arrived (verdict_in items) r else r
+rings_by ok (TxPost slot send) items r = if ok then send_posted send r else r
+rings_by ok TxBell items r = if ok then returned r else r
+rings_by ok WireOut items r = if ok then sent_by items r else r
 rings_by ok other items r = r
 
 -- ---- what the registers are
@@ -172,7 +220,6 @@ address_low mac = mac_byte mac 0 + 256 * mac_byte mac 1 + 256 ^ 2 * mac_byte mac
 abbrev pub address_high : ℕ → ℕ
 address_high mac = mac_byte mac 4 + 256 * mac_byte mac 5 + 2 ^ 31
 
--- Nothing can be posted to be sent yet, so the transmit ring's head stays where it was.
 abbrev pub register : Local → Rings → Reg → ℕ
 register local r Ctrl = 0
 register local r Status = 0x00000003
@@ -189,7 +236,7 @@ register local r Rdt = r.receive.rung % 64
 register local r Tdbal = r.transmit.base
 register local r Tdbah = 0
 register local r Tdlen = r.transmit.len
-register local r Tdh = 0
+register local r Tdh = r.sent % 64
 register local r Tdt = r.transmit.rung % 64
 register local r Mpc = r.missed
 register local r Ral0 = address_low local.mac

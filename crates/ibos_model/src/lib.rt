@@ -4,7 +4,9 @@
 
 ghost use Rattle.ibos_model.specs.Laws.{AreFrameFronts, AreFronts, AreOfTheirActs, AreOrdered};
 ghost use Rattle.ibos_model.specs.Laws.{AreAtEndpoints, AreFirst, AreTheDevices, IsTheDevices};
-ghost use Rattle.ibos_model.specs.Laws.{AreHeardAlone, AreLentInOrder, ArePendingLast};
+ghost use Rattle.ibos_model.specs.Laws.{AreFixed, AreLentInOrder, AreLoggedAlone, ArePendingLast};
+ghost use Rattle.ibos_model.specs.Laws.{ArePostedOnce, AreRight, AreSentFronts, AreSentInTurn};
+ghost use Rattle.ibos_model.specs.Laws.{AreSentRightly, AreUnbornQuiet, IsSentByTheDevice};
 ghost use Rattle.ibos_model.specs.Laws.{AreReadInOrder};
 ghost use Rattle.ibos_model.specs.Laws.{AreRuns, AreSetsPut, AreUnbornBare, DoGoOn};
 ghost use Rattle.ibos_model.specs.Laws.{IsIsolated, IsIsolatedOverTwo, IsCarriedAlways};
@@ -51,7 +53,7 @@ pub fn origins_show_whole()
 }
 
 /// A denied act changes nothing that a journal says: tabs, focus, jars, contents, the screen,
-/// flows, frames, rings and registers.
+/// flows, frames, sends, rings, registers, stored objects and requests.
 pub fn denials_change_nothing()
     ensures { IsUnchanged }
 {}
@@ -82,9 +84,11 @@ pub fn frames_are_fronts()
     ensures { AreFrameFronts }
 {}
 
-/// An instance that never started has bound no flow, and was given no frame.
+/// An instance that never started has bound no flow, was given no frame, has asked for nothing, and
+/// its buffers are zero and at home.
 pub fn unborn_have_nothing()
-    ensures { AreUnbornBare }
+    ensures bare { AreUnbornBare }
+    ensures quiet { AreUnbornQuiet }
 {}
 
 /// In every run the counts of each ring are in order: no more descriptors are taken back than the
@@ -99,11 +103,13 @@ pub fn rings_are_ordered()
 }
 
 /// The registers of journals, which are counted from acts, are those that the device makes by its
-/// own rules: at first, after each entry of a run, and where it judges a frame that comes.
+/// own rules: at first, after each entry of a run, where it judges a frame that comes, and where it
+/// may send one.
 pub fn registers_are_the_devices()
     ensures first { AreFirst }
     ensures after { AreTheDevices }
     ensures verdict { IsTheDevices }
+    ensures sent { IsSentByTheDevice }
 {
     // Called for what their contracts say.
     rules_are_exact();
@@ -124,10 +130,37 @@ pub fn frames_keep_their_order()
     rings_are_ordered();
 }
 
-/// No act but a frame that comes has to do with the device's log.
-pub fn frames_alone_are_heard()
-    ensures { AreHeardAlone }
+/// No act but the wire's has to do with the device's log.
+pub fn the_wire_alone_is_logged()
+    ensures { AreLoggedAlone }
 {}
+
+/// Each accepted send is posted at most once, and breaks no rule of frames that go out: its source
+/// is a port of its sender, and its destination the endpoint of its sender's origin. Each frame
+/// that went out is that of such a send. What is away keeps its bytes.
+pub fn sends_are_right()
+    ensures posted { ArePostedOnce }
+    ensures right { AreRight }
+    ensures sent { AreSentRightly }
+    ensures fixed { AreFixed }
+{}
+
+/// An entry of a run that sends a frame adds the one that is next to the frames that went out, and
+/// no other entry adds one.
+pub fn frames_are_sent_in_turn()
+    ensures { AreSentInTurn }
+{
+    // Called for what its contract says.
+    rings_are_ordered();
+}
+
+/// The frames that went out in a journal are a front of those of each run from there.
+pub fn sent_frames_are_fronts()
+    ensures { AreSentFronts }
+{
+    // Called for what its contract says.
+    rings_are_ordered();
+}
 
 /// An instance's flows are bound to where its page is, for every host table with plain names.
 pub fn instances_are_at_their_pages()

@@ -1,4 +1,4 @@
-use Rattle.ibos_model.proofs.DeviceRegisters.{first_are, entries_are, verdict_is}
+use Rattle.ibos_model.proofs.DeviceRegisters.{first_are, entries_are, sent_by_the_device, verdict_is}
 use Rattle.ibos_model.proofs.registers_are_the_devices.Goals as goal
 
 pub returns-clause-first : goal.returns-clause-first
@@ -10,3 +10,6 @@ returns-clause-after c = entries_are (λ values reg value is. (c.rules_are_exact
 
 pub returns-clause-verdict : goal.returns-clause-verdict
 returns-clause-verdict c = verdict_is c.rings_are_ordered.ensures
+
+pub returns-clause-sent : goal.returns-clause-sent
+returns-clause-sent c = sent_by_the_device c.rings_are_ordered.ensures
