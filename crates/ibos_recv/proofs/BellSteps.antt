@@ -9,7 +9,7 @@ use Rattle.ibos_mediate.specs.Keeps.{Keeps, SameNames, SameRegisters}
 use Rattle.ibos_mediate.specs.Mediated.{Mediated, RingView, ring_of}
 use Rattle.ibos_mediate.specs.Relation.{AreOwned, AreUnheld, AreUnheldBut, IsAtDevice, IsInMemory, IsLoanFor, completed}
 use Rattle.ibos_recv.proofs.PartedHands.{clash, kept_in}
-use Rattle.ibos_recv.proofs.Words.{AreAtHand, AreFilled, Held, Inboxes, Instance, IsClaimed, IsKept, IsLent, IsLoanOf, IsMarked, IsServed, Memory, Name, Names, Place, Receive, Ring, Transmit, address_of, buffer_at, buffer_bytes, descriptor_bytes, has_place, held_in, inbox_by, is_lent_at, is_taken, room_slots, same_name, slot_address, slot_at}
+use Rattle.ibos_recv.proofs.Words.{AreAtHand, AreFilled, Held, Inboxes, Instance, IsClaimed, IsKept, IsLent, IsLoanOf, IsMarked, IsPlaceIn, IsServed, Memory, Name, Names, Place, Receive, Ring, Transmit, address_of, buffer_at, buffer_bytes, descriptor_bytes, has_place, held_in, inbox_by, is_lent_at, is_taken, room_slots, same_name, slot_address, slot_at}
 
 -- what a bell works on
 pub record State : Type 0 where
@@ -48,7 +48,7 @@ serving-begins s memory owned unheld at_hand = record {
   held = refl;
   device = λ regs is. is;
   hands = λ more hands. hands;
-  served = record { names = λ name other. refl; places = λ name. refl; pool_areas = refl; buffers = λ p kept out. refl; kept = λ p kept. kept; areas = refl };
+  served = record { names = λ name other. refl; places = λ name. refl; pool_areas = refl; buffers = λ p place out. refl; kept = λ p kept. kept; areas = refl };
 }
 
 -- A buffer with its frame is taken back, the inboxes' buffers are written, and the buffer is given.
@@ -152,9 +152,9 @@ module _ (laws : Laws) (h : Held) (a : Arrival) (first now next : State) (mem : 
       names = λ name other. step.claimed.taken_names name ∙ ap (λ b. cond b false (is_taken now.pool name)) (names-step name other) ∙ serving.served.names name other;
       places = λ name. step.claimed.places name ∙ serving.served.places name;
       pool_areas = step.claimed.areas ∙ serving.served.pool_areas;
-      buffers = λ p kept out.
-          let there = kept-marked p (serving.served.kept p kept) in
-          filled.others p there.place (subst (λ hs. has_place hs p ≡ false) (sym serving.held) out) ∙ step.marked.bytes (address_of p) buffer_bytes ∙ serving.served.buffers p kept out;
+      buffers = λ p place out.
+          let there : IsPlaceIn (length mem) p = subst (λ k. IsPlaceIn k p) (sym (step.marked.areas ∙ serving.served.areas)) place in
+          filled.others p there (subst (λ hs. has_place hs p ≡ false) (sym serving.held) out) ∙ step.marked.bytes (address_of p) buffer_bytes ∙ serving.served.buffers p place out;
       kept = λ p kept. kept-next p (kept-marked p (serving.served.kept p kept));
       areas = filled.areas ∙ step.marked.areas ∙ serving.served.areas;
     };

@@ -41,13 +41,13 @@ pub record AreFilled (held : List Held) (old new : Memory) : Type 0 where
   pub lent : (p : Place) → is_lent_at new p ≡ is_lent_at old p
   pub areas : length new ≡ length old
 
--- A bell leaves all names but those of receive buffers, all places, and each buffer that was not
--- lent and is none of these.
+-- A bell leaves all names but those of receive buffers, all places, and the bytes of each buffer that
+-- is none of these.
 pub record IsServed (held : List Held) (pool pool' : Names) (mem mem' : Memory) : Type 0 where
   pub names : (name : Name) → name.area ≢ 0 → is_taken pool' name ≡ is_taken pool name
   pub places : (name : Name) → place_of pool' name ≡ place_of pool name
   pub pool_areas : length pool' ≡ length pool
-  pub buffers : (p : Place) → IsKept mem p → has_place held p ≡ false
+  pub buffers : (p : Place) → IsPlaceIn (length mem) p → has_place held p ≡ false
       → buffer_at mem' p ≡ buffer_at mem p
   pub kept : (p : Place) → IsKept mem p → IsKept mem' p
   pub areas : length mem' ≡ length mem
