@@ -1,0 +1,15 @@
+mod Fillings
+mod FreshAreas
+mod Gathered
+mod Givings
+mod HomePlaces
+mod HomeSteps
+mod ListSteps
+mod OpenPlaces
+mod PartedHands
+mod PostSteps
+mod ReturnSteps
+mod SendRules
+mod TablePlaces
+mod Takings
+mod Words

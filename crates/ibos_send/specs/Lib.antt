@@ -1,0 +1,4 @@
+pub mod Buffers
+pub mod Lists
+pub mod Returns
+pub mod Sends
