@@ -1,6 +1,6 @@
 -- The registers of the journal are those of the rings, and eight others.
-use Rattle.std.proofs.Common.{sym, ◌∙◌, ap, arith}
-use Rattle.ibos_net.proofs.Words.{ℕ, ◌≡◌, ◌%◌, List, IsInMemory, IsAtDevice, Local, Mediated, Memory, Rings, RingsStand, Registers, Receive, Transmit, Base, High, Length, HeadPart, Tail, Control, Reg, Ctrl, Icr, Imc, Ims, Mpc, Rah0, Ral0, Rctl, Rdbah, Rdbal, Rdh, Rdlen, Rdt, Status, Tctl, Tdbah, Tdbal, Tdh, Tdlen, Tdt, completed, register, RingValues, address_high, address_low}
+use Rattle.std.proofs.Common.{sym, ◌∙◌, ap}
+use Rattle.ibos_net.proofs.Words.{ℕ, ◌≡◌, ◌%◌, List, IsInMemory, IsAtDevice, Local, Mediated, Memory, Rings, RingsStand, Registers, Receive, Transmit, Base, High, Length, HeadPart, Tail, Control, Reg, Ctrl, Icr, Imc, Ims, Mpc, Rah0, Ral0, Rctl, Rdbah, Rdbal, Rdh, Rdlen, Rdt, Status, Tctl, Tdbah, Tdbal, Tdh, Tdlen, Tdt, register, RingValues, address_high, address_low}
 
 -- the registers that are part of no ring
 pub record AreOthers (local : Local) (rings : Rings) (regs : Registers) : Type 0 where
@@ -16,15 +16,6 @@ pub record AreOthers (local : Local) (rings : Rings) (regs : Registers) : Type 0
 pub others-of : (local : Local) (rings : Rings) (regs : Registers) → ((r : Reg) → regs r ≡ register local rings r) → AreOthers local rings regs
 others-of local rings regs is = record { ctrl = is Ctrl; status = is Status; icr = is Icr; ims = is Ims; imc = is Imc; mpc = is Mpc; ral0 = is Ral0; rah0 = is Rah0 }
 
--- nothing is posted to be sent, so none was sent
-pub none-sent : (rings : Rings) (frames : List (List ℕ)) (m : Mediated) (mem : Memory) → RingsStand rings frames m mem → IsInMemory m mem → completed Transmit mem m.transmit ≡ 0
-none-sent rings frames m mem stands memory =
-    let ring = memory.ring Transmit in
-    let rung = ring.rung in
-    let posted = ring.balanced.posted in
-    let none = stands.unposted in
-    omega arith
-
 pub at-device : (local : Local) (rings : Rings) (frames : List (List ℕ)) (m : Mediated) (mem : Memory) (regs : Registers) → RingsStand rings frames m mem → IsInMemory m mem
     → ((r : Reg) → regs r ≡ register local rings r) → IsAtDevice m mem regs
 at-device local rings frames m mem regs s memory is Receive Base = is Rdbal ∙ ap (λ (v : RingValues). v.base) s.receive
@@ -36,7 +27,7 @@ at-device local rings frames m mem regs s memory is Receive Control = is Rctl �
 at-device local rings frames m mem regs s memory is Transmit Base = is Tdbal ∙ ap (λ (v : RingValues). v.base) s.transmit
 at-device local rings frames m mem regs s memory is Transmit High = is Tdbah
 at-device local rings frames m mem regs s memory is Transmit Length = is Tdlen ∙ ap (λ (v : RingValues). v.len) s.transmit
-at-device local rings frames m mem regs s memory is Transmit HeadPart = is Tdh ∙ sym (ap (λ n. n % 64) (none-sent rings frames m mem s memory))
+at-device local rings frames m mem regs s memory is Transmit HeadPart = is Tdh ∙ ap (λ n. n % 64) s.sent
 at-device local rings frames m mem regs s memory is Transmit Tail = is Tdt ∙ ap (λ (v : RingValues). v.rung % 64) s.transmit
 at-device local rings frames m mem regs s memory is Transmit Control = is Tctl ∙ ap (λ (v : RingValues). v.control) s.transmit
 
@@ -58,7 +49,7 @@ from-device local rings frames m mem regs s memory at o Rdt = at Receive Tail �
 from-device local rings frames m mem regs s memory at o Tdbal = at Transmit Base ∙ sym (ap (λ (v : RingValues). v.base) s.transmit)
 from-device local rings frames m mem regs s memory at o Tdbah = at Transmit High
 from-device local rings frames m mem regs s memory at o Tdlen = at Transmit Length ∙ sym (ap (λ (v : RingValues). v.len) s.transmit)
-from-device local rings frames m mem regs s memory at o Tdh = at Transmit HeadPart ∙ ap (λ n. n % 64) (none-sent rings frames m mem s memory)
+from-device local rings frames m mem regs s memory at o Tdh = at Transmit HeadPart ∙ sym (ap (λ n. n % 64) s.sent)
 from-device local rings frames m mem regs s memory at o Tdt = at Transmit Tail ∙ sym (ap (λ (v : RingValues). v.rung % 64) s.transmit)
 from-device local rings frames m mem regs s memory at o Mpc = o.mpc
 from-device local rings frames m mem regs s memory at o Ral0 = o.ral0

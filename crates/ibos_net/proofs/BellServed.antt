@@ -1,7 +1,10 @@
 -- A receive bell makes of the net half what the journal says.
 use Rattle.std.proofs.Common.{refl, sym, ◌∙◌, ap, subst, arith}
 use Rattle.std.specs.Prelude.{filter}
-use Rattle.ibos_net.proofs.Words.{ℕ, ◌≡◌, ◌≢◌, ◌≤◌, ◌+◌, ◌-◌, ◌++◌, List, [], Option, None, Alive, AreAtHand, AreOwned, AreUnheld, Ring, RingValues, ring_of, AreRegisters, Arrival, Endpoint, Inboxes, Instance, IsAtDevice, IsInMemory, IsSafe, Item, Life, Gone, Unborn, Local, LogEntry, Mediated, Memory, Names, NetMakes, NetStands, NetState, Network, Page, Receive, Registers, RxBell, accepted, after_bell, arrivals, bell_over, belled, bound_by, completed, ear_with, frames_of, handles_after, held_in, inbox_by, is_to, length, map, received_frames, unread_count, unread_of, got_for}
+use Rattle.ibos_mediate.specs.Frames.{unsent_frames}
+use Rattle.ibos_net.proofs.BuffersStay.{ring-lent}
+use Rattle.ibos_net.proofs.SendsLeft.{SendsLeft, counts-moved, left-buffers}
+use Rattle.ibos_net.proofs.Words.{next_frame, network_by, true, false, Bool, Held, IsKept, IsLent, IsPlaceIn, IsTrue, IsFalse, Place, RingView, buffer_at, has_place, is_lent_at, held_to_send, Transmit, ℕ, ◌≡◌, ◌≢◌, ◌≤◌, ◌+◌, ◌-◌, ◌++◌, List, [], Option, None, Alive, AreAtHand, AreOwned, AreUnheld, Ring, RingValues, ring_of, AreRegisters, Arrival, Endpoint, Inboxes, Instance, IsAtDevice, IsInMemory, IsSafe, Item, Life, Gone, Unborn, Local, LogEntry, Mediated, Memory, Names, NetMakes, NetStands, NetState, Network, Page, Receive, Registers, RxBell, accepted, after_bell, arrivals, bell_over, belled, bound_by, completed, ear_with, frames_of, handles_after, held_in, inbox_by, is_to, length, map, received_frames, unread_count, unread_of, got_for}
 use Rattle.ibos_kinds.specs.Bells.{bell, frames_in}
 use Rattle.ibos_model.specs.Journal.{kind_in}
 use Rattle.ibos_model.specs.Logs.{log_by}
@@ -42,7 +45,31 @@ items-same local life remote n t safe s bytes counted counts =
 
 -- the net half after the bell
 abbrev pub after : NetState → Mediated → Memory → Names → Inboxes → NetState
-after t med mem names inboxes = record { med = med; mem = mem; names = names; flows = t.flows; inboxes = inboxes }
+after t med mem names inboxes = record { med = med; mem = mem; names = names; flows = t.flows; inboxes = inboxes; sends = t.sends }
+
+lent-kept : (b : Bool) → IsTrue b → IsFalse b → ⊥
+lent-kept true lent kept = absurd (cc kept)
+lent-kept false lent kept = absurd (cc lent)
+
+-- a bell leaves what is to be sent: the inboxes' buffers alone are written
+pub bell-left : (t : NetState) (med : Mediated) (mem : Memory) → IsSafe t → med.transmit ≡ t.med.transmit → completed Transmit mem med.transmit ≡ completed Transmit t.mem t.med.transmit → unsent_frames mem med.transmit ≡ unsent_frames t.mem t.med.transmit
+    → AreAtHand t.names t.mem (held_in t.inboxes) → AreAtHand t.names t.mem (held_to_send t.sends) → ((held : List Held) (p : Place) → AreAtHand t.names t.mem held → has_place held p ≡ true → IsKept t.mem p)
+    → ((held more : List Held) (p : Place) → AreAtHand t.names t.mem (held ++ more) → has_place held p ≡ true → has_place more p ≡ false) → AreAtHand t.names t.mem (held_to_send t.sends ++ held_in t.inboxes)
+    → ((p : Place) → IsPlaceIn (length t.mem) p → has_place (held_in t.inboxes) p ≡ false → buffer_at mem p ≡ buffer_at t.mem p) → SendsLeft t.med med t.mem mem t.sends
+bell-left t med mem safe transmit done unsent front hands kept apart swapped others = record {
+  held = ap (λ (r : RingView). r.held) transmit;
+  done = done;
+  unsent = unsent;
+  home = λ p there. others p (kept (held_to_send t.sends) p hands there).place (apart (held_to_send t.sends) (held_in t.inboxes) p swapped there);
+  lent = λ p there.
+      let lent = ring-lent t.med t.mem p safe.memory there in
+      others p lent.place (by_test p (has_place (held_in t.inboxes) p) refl lent);
+  posts = λ posts. record { posted = ap (λ (r : RingView). r.values.posted) transmit ∙ posts.posted; taken = ap (λ (r : RingView). r.values.taken) transmit ∙ posts.taken };
+}
+  where
+    by_test : (p : Place) (b : Bool) → has_place (held_in t.inboxes) p ≡ b → IsLent t.mem p → has_place (held_in t.inboxes) p ≡ false
+    by_test p true is lent = absurd (lent-kept (is_lent_at t.mem p) lent.lent (kept (held_in t.inboxes) p front is).kept)
+    by_test p false is lent = is
 
 pub bell-serves : (local : Local) (life : Instance → Life) (remote : Instance → Endpoint) (n : Network) (t : NetState) (med : Mediated) (mem : Memory) (names : Names) (inboxes : Inboxes) (regs : Registers) (log : List LogEntry) (items : List Item)
     → IsSafe t → NetStands life remote n t → AreRegisters local n regs
@@ -50,10 +77,10 @@ pub bell-serves : (local : Local) (life : Instance → Life) (remote : Instance 
     → ((p : Instance) → frames_of mem inboxes p ≡ frames_of t.mem t.inboxes p ++ frames_in (filter (is_to (Page p)) items))
     → med ≡ after_bell Receive t.mem t.med → med.transmit ≡ t.med.transmit → completed Receive mem med.receive ≡ completed Receive t.mem t.med.receive → received_frames mem med.receive ≡ []
     → ((p : Instance) → inbox_by t.inboxes p ≡ None → inbox_by inboxes p ≡ None) → IsInMemory med mem → ((r : Registers) → IsAtDevice t.med t.mem r → IsAtDevice med mem r)
-    → length names ≡ length t.names → length mem ≡ length t.mem
+    → length names ≡ length t.names → length mem ≡ length t.mem → SendsLeft t.med med t.mem mem t.sends
     → NetMakes local life remote n RxBell (accepted items) (after t med mem names inboxes) regs log log
-bell-serves local life remote n t med mem names inboxes regs log items safe s each is frames belled-by transmit done none closed memory device names-same areas-same =
-    let stand = rings-belled n.rings n.pending t.med med t.mem mem s.rings (few-held t.med t.mem safe.memory) belled-by transmit done none in
+bell-serves local life remote n t med mem names inboxes regs log items safe s each is frames belled-by transmit done none closed memory device names-same areas-same left =
+    let stand = rings-belled n.rings n.pending t.med med t.mem mem s.rings (few-held t.med t.mem safe.memory) belled-by transmit done none left.done in
     record {
       outcome = ap accepted is;
       stands = record {
@@ -61,10 +88,14 @@ bell-serves local life remote n t med mem names inboxes regs log items safe s ea
         ears = s.ears;
         unread = λ p alive. frames p ∙ ap (λ xs. xs ++ frames_in (filter (is_to (Page p)) items)) (s.unread p alive);
         closed = λ p gone. closed p (s.closed p gone);
+        unsending = s.unsending;
+        counts = counts-moved n (network_by true RxBell (accepted items) (got_for (accepted items) log) n) t.sends refl refl refl s.counts;
+        buffers = left-buffers t.med med t.mem mem t.sends life n left s.buffers;
+        unsent = left.unsent ∙ s.unsent;
         areas = names-same ∙ s.areas ∙ sym areas-same;
       };
       registers = from-device local (belled n.rings) [] med mem regs stand memory (device regs (at-device local n.rings n.pending t.med t.mem regs s.rings safe.memory each)) (others-like local n.rings (belled n.rings) regs refl refl refl (others-of local n.rings regs each));
-      log = ap (λ k. log_by k [] (got_for (accepted items) log) [] log) (sym (ap kind_in is ∙ bell-kind local (λ p. ear_with (life p) (remote p) (n.flows p)) (unread_count n) n.pending (handles_after n.rings)));
+      log = ap (λ k. log_by k [] (got_for (accepted items) log) (next_frame n) log) (sym (ap kind_in is ∙ bell-kind local (λ p. ear_with (life p) (remote p) (n.flows p)) (unread_count n) n.pending (handles_after n.rings)));
     }
 
 pub bell-posts : (m m' : Mediated) (mem : Memory) → IsInMemory m mem → m' ≡ after_bell Receive mem m → m'.receive.values.posted ≡ m.receive.values.posted
@@ -73,5 +104,14 @@ bell-posts m m' mem memory is =
     ap (λ (x : Mediated). x.receive.values.posted) is ∙ ap (λ (v : RingValues). v.posted) taken.values
 
 pub belled-safe : (t : NetState) (med : Mediated) (mem : Memory) (names : Names) (inboxes : Inboxes) → IsSafe t → IsInMemory med mem → ((ring : Ring) → AreOwned ring (ring_of med ring) names) → AreUnheld med names mem
-    → AreAtHand names mem (held_in inboxes) → ((p : Instance) → inbox_by inboxes p ≡ None → inbox_by t.inboxes p ≡ None) → IsSafe (after t med mem names inboxes)
-belled-safe t med mem names inboxes safe memory owned unheld hands closed = record { memory = memory; owned = owned; unheld = unheld; hands = hands; beside = λ p there none. safe.beside p there (closed p none) }
+    → AreAtHand names mem (held_in inboxes ++ held_to_send t.sends) → ((p : Instance) → inbox_by inboxes p ≡ None → inbox_by t.inboxes p ≡ None) → SendsLeft t.med med t.mem mem t.sends → IsSafe (after t med mem names inboxes)
+belled-safe t med mem names inboxes safe memory owned unheld hands closed left = record {
+  memory = memory;
+  owned = owned;
+  unheld = unheld;
+  hands = hands;
+  beside = λ p there none. safe.beside p there (closed p none);
+  sending = safe.sending;
+  posts = left.posts safe.posts;
+  told = safe.told ∙ sym left.done;
+}

@@ -1,4 +1,6 @@
 pub mod Words
+pub mod BuffersStay
+pub mod SendsLeft
 pub mod AtDevice
 pub mod RegisterWritten
 pub mod Outcomes
@@ -6,7 +8,15 @@ pub mod OwnAddress
 pub mod PostMade
 pub mod Arrivals
 pub mod AreasGrown
+pub mod AreasBegun
 pub mod BellItems
 pub mod RingsBelled
 pub mod BellServed
 pub mod Beginning
+pub mod FlowsMade
+pub mod FillsMade
+pub mod SubmitsMade
+pub mod SendPosted
+pub mod FramesSent
+pub mod SentReturned
+pub mod SendsBelled

@@ -1,7 +1,7 @@
 -- A receive bell takes a buffer back for each frame that was heard.
 use Rattle.std.proofs.Common.{refl, sym, ◌∙◌, ap, subst, arith}
 use Rattle.std.proofs.lemmas.List.{drop-map, take-map}
-use Rattle.ibos_net.proofs.Words.{ℕ, zero, suc, ◌≡◌, ◌≤◌, ◌+◌, ◌-◌, ◌∷◌, List, [], Arrival, Handle, Held, Mediated, Memory, Receive, RingValues, RingView, Rings, RingsStand, after_bell, arrival_at, arrivals, belled, belled_by, completed, drop, take, handle_after, handle_of, handles_after, held_for, length, map, names_of, no_buffer, range_with_len, received_frames, slice_index_or, taken_back, turns_after, with_turn}
+use Rattle.ibos_net.proofs.Words.{Transmit, ℕ, zero, suc, ◌≡◌, ◌≤◌, ◌+◌, ◌-◌, ◌∷◌, List, [], Arrival, Handle, Held, Mediated, Memory, Receive, RingValues, RingView, Rings, RingsStand, after_bell, arrival_at, arrivals, belled, belled_by, completed, drop, take, handle_after, handle_of, handles_after, held_for, length, map, names_of, no_buffer, range_with_len, received_frames, slice_index_or, taken_back, turns_after, with_turn}
 use Rattle.ibos_mediate.specs.Frames.{take_back}
 use Rattle.ibos_net.proofs.BellItems.{front-read, map-twice}
 
@@ -44,8 +44,9 @@ handles-front rings frames m mem s few =
     ∙ sym (take-map f count m.receive.held) ∙ ap (take count) (sym all)
 
 pub rings-belled : (rings : Rings) (frames : List (List ℕ)) (m m' : Mediated) (mem mem' : Memory) → RingsStand rings frames m mem → completed Receive mem m.receive - m.receive.values.taken ≤ length m.receive.held
-    → m' ≡ after_bell Receive mem m → m'.transmit ≡ m.transmit → completed Receive mem' m'.receive ≡ completed Receive mem m.receive → received_frames mem' m'.receive ≡ [] → RingsStand (belled rings) [] m' mem'
-rings-belled rings frames m m' mem mem' s few after transmit done none =
+    → m' ≡ after_bell Receive mem m → m'.transmit ≡ m.transmit → completed Receive mem' m'.receive ≡ completed Receive mem m.receive → received_frames mem' m'.receive ≡ []
+    → completed Transmit mem' m'.transmit ≡ completed Transmit mem m.transmit → RingsStand (belled rings) [] m' mem'
+rings-belled rings frames m m' mem mem' s few after transmit done none sent =
     let count : ℕ = completed Receive mem m.receive - m.receive.values.taken in
     let taken : IsTakenBack m m' count = subst (λ x. IsTakenBack m x count) (sym after) (taken-by count m few) in
     let same : rings.heard - rings.receive.taken ≡ count = ap (λ n. n - rings.receive.taken) s.heard ∙ ap (λ (v : RingValues). completed Receive mem m.receive - v.taken) s.receive in
@@ -56,6 +57,6 @@ rings-belled rings frames m m' mem mem' s few after transmit done none =
       turns = ap (λ ts. turns_after (take count rings.names) ts) s.turns ∙ ap (λ ns. turns_after (take count ns) m.turns) s.names ∙ sym taken.turns;
       heard = s.heard ∙ sym done;
       pending = sym none;
-      unposted = ap (λ (r : RingView). r.values.posted) transmit ∙ s.unposted;
+      sent = s.sent ∙ sym sent;
     } in
     subst (λ n. RingsStand (belled_by n rings) [] m' mem') (sym same) stand

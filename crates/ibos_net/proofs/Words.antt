@@ -62,3 +62,14 @@ pub use Rattle.ibos_model.specs.Rings.{Rings, address_high, address_low, arrived
 pub use Rattle.ibos_model.specs.Tabs.{Life, Unborn, Alive, Gone}
 pub use Rattle.ibos_net.specs.NetStanding.{AreRegisters, IsSafe, IsWithLife, Leaves, NetMakes, NetStands, NetState, RingsStand, Serves, areas_of, net_outcome, posts_of, with_life, with_remote}
 unfoldable pub use Rattle.ibos_mediate.specs.Frames.{take_back}
+pub use Rattle.ibos_kinds.specs.Sends.{Send, fill_rule, fresh_buffer, frame_of_send, home_items, home_of, homes_of as homes_returned, overlaid, returned_items, send_at, submit_rule}
+pub use Rattle.ibos_mediate.specs.Relation.{IsOpen, place_for}
+pub use Rattle.ibos_send.specs.declared.sending.Post.{Post}
+pub use Rattle.ibos_send.specs.declared.sending.Waiting.{Waiting}
+pub use Rattle.ibos_send.specs.Buffers.{Homes, Table as HomeTable, bytes_of, gathered, has_home_place, held_of, home_at, home_place, homes_of, new_homes, size_of}
+pub use Rattle.ibos_send.specs.Buffers.{home_in}
+unfoldable pub use Rattle.ibos_send.specs.Buffers.{homes_in}
+pub use Rattle.ibos_send.specs.Sends.{Outgoing, IsInRing, count_of, frame_in, held_waiting, home_by, homes_by, is_away, is_open, is_waiting, numbers_of, posted_in, untold_of, waiting_at, held_in as held_to_send}
+pub use Rattle.ibos_net.specs.NetStanding.{IsBare, hands_of}
+pub use Rattle.ibos_net.specs.SendsStanding.{ArePosted, BuffersStand, CountsStand, HoldsFor, IsPostedFor, IsWaitingFor, is_from, one_if, posted_from, unsent_sends, waiting_from}
+pub use Rattle.ibos_model.specs.Network.{next_frame, waits}

@@ -1,1 +1,2 @@
 pub mod NetStanding
+pub mod SendsStanding

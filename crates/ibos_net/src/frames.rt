@@ -16,7 +16,7 @@ use ibos_mediate::{
 };
 use ibos_nic::{Nic, descriptors_are_their_bytes};
 use ibos_pool::parts_are_apart;
-use ibos_recv::{inboxes_keep_their_frames, serve};
+use ibos_recv::{hands_are_parted, inboxes_keep_their_frames, serve};
 use std::alloc::Global;
 
 impl Parts {
@@ -38,6 +38,7 @@ impl Parts {
         parts_are_apart();
         posts_add_a_frame();
         frames_are_counted();
+        hands_are_parted();
         inboxes_keep_their_frames();
         match self
             .med
@@ -75,6 +76,8 @@ impl Parts {
         // called for what their clauses say
         arrivals_keep_the_relation();
         arrivals_add_a_frame();
+        frames_are_counted();
+        hands_are_parted();
         inboxes_keep_their_frames();
         let verdict = nic.arrive(alloc, frame, &mut self.mem)?;
         out.push(Item::VerdictIs { verdict })?;
@@ -100,6 +103,7 @@ impl Parts {
     {
         // called for what their clauses say
         frames_are_counted();
+        hands_are_parted();
         inboxes_keep_their_frames();
         serve(
             alloc,

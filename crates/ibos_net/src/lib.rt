@@ -1,5 +1,5 @@
 //! The half of the kernel that frames pass: the mediator of the network card, the memory and the
-//! pool of its buffers, the flows and the inboxes of the instances.
+//! pool of its buffers, the flows and the inboxes of the instances, and what these send.
 #![tactic(auto)]
 
 mod flows;
@@ -8,6 +8,7 @@ mod instances;
 mod net;
 mod parts;
 mod registers;
+mod sends;
 mod starting;
 
 pub use net::{Net, lives_may_change};

@@ -9,11 +9,11 @@ ghost use Rattle.ibos_nic.specs.declared.reg.Reg.{Reg};
 ghost use Rattle.ibos_nic.specs.Registers.{reset};
 ghost use Rattle.ibos_model.specs.Journal.{is_ok};
 ghost use Rattle.ibos_model.specs.Logs.{Loses};
-ghost use Rattle.ibos_model.specs.Network.{Network, no_network};
+ghost use Rattle.ibos_model.specs.Network.{Network, next_frame, no_network};
 ghost use Rattle.ibos_model.specs.Tabs.{Life, Unborn, Alive, Gone};
-ghost use Rattle.ibos_net.specs.NetStanding.{AreRegisters, IsWithLife, NetMakes, NetStands};
-ghost use Rattle.ibos_net.specs.NetStanding.{NetState, areas_of, is_net, net_outcome, posts_of};
-ghost use Rattle.ibos_net.specs.NetStanding.{takes_none, with_life, with_remote};
+ghost use Rattle.ibos_net.specs.NetStanding.{AreRegisters, IsBare, IsWithLife, NetMakes};
+ghost use Rattle.ibos_net.specs.NetStanding.{NetStands, NetState, areas_of, is_net, net_outcome};
+ghost use Rattle.ibos_net.specs.NetStanding.{posts_of, takes_none, with_life, with_remote};
 
 use crate::parts::Parts;
 use ibos_kinds::{Act, Endpoint, Instance, Local, Memory, Outcome};
@@ -56,10 +56,9 @@ impl Net {
         requires named { IsNamed who }
         requires room { areas_of self.old < 2049 }
         requires together { (life : Instance → Life) × (remotes : Instance → Endpoint)
-            × (n : Network) × NetStands life remotes n self.old × (life who ≢ Alive) }
+            × (n : Network) × NetStands life remotes n self.old × (life who ≡ Unborn) }
         ensures stands { OnOk result ((life : Instance → Life) (remotes : Instance → Endpoint)
-            (n : Network) → NetStands life remotes n self.old → life who ≢ Alive
-            → n.flows who ≡ [] → n.unread who ≡ []
+            (n : Network) → NetStands life remotes n self.old → life who ≡ Unborn → IsBare n who
             → NetStands (with_life who Alive life) (with_remote who remote remotes) n self.new) }
         ensures areas { OnOk result (areas_of self.new ≡ areas_of self.old + 1) }
         ensures posts { posts_of self.new ≡ posts_of self.old }
@@ -107,8 +106,8 @@ impl Net {
         ensures loses { OnErr result ((life : Instance → Life) (remote : Instance → Endpoint)
             (n : Network) → NetStands life remote n self.old
             → AreRegisters local.now n (N.regs nic.old) → IsWithLife life act.now
-            → Loses (net_outcome local.now life remote n act.now) act.now (N.log nic.old)
-            (N.log nic.new)) }
+            → Loses (net_outcome local.now life remote n act.now) act.now (next_frame n)
+            (N.log nic.old) (N.log nic.new)) }
         ensures denied { OnOk result (is_ok out.new.head ≡ false → self.new ≡ self.old) }
         ensures areas { areas_of self.new ≡ areas_of self.old }
         ensures posts { OnOk result (posts_of self.new ≤ posts_of self.old + 1) }
@@ -123,10 +122,24 @@ impl Net {
             Act::RxPost { slot, handle } => self.parts.post(*slot, *handle, out),
             Act::RxBell => self.parts.bell(alloc, local, out)?,
             Act::WireIn { frame } => self.parts.arrive(alloc, frame.as_slice(), nic, out)?,
+            Act::Fill {
+                who,
+                buffer,
+                place,
+                bytes,
+            } => self
+                .parts
+                .fill(*who, *buffer, *place, bytes.as_slice(), out),
+            Act::Submit { who, buffer, len } => self.parts.submit(*who, *buffer, *len, local, out)?,
+            Act::TxPost { slot, send } => self.parts.post_send(*slot, *send, out),
+            Act::TxBell => self.parts.bell_sends(out)?,
+            Act::WireOut => self.parts.transmit(alloc, nic, out)?,
             Act::Start { .. } | Act::Switch { .. } | Act::Close { .. } => unreachable!(),
             Act::Press { .. } | Act::Click { .. } | Act::Look => unreachable!(),
             Act::Go { .. } | Act::Draw { .. } => unreachable!(),
             Act::CookieSet { .. } | Act::CookieGet { .. } => unreachable!(),
+            Act::Put { .. } | Act::Ask { .. } | Act::StoreAnswer { .. } => unreachable!(),
+            Act::StoreNone { .. } | Act::StoreLose { .. } => unreachable!(),
         }
         Ok(())
     }
@@ -161,11 +174,10 @@ impl Net {
     }
 }
 
-/// Of lives and other ends the relation asks only which instances live, and where the origins of
-/// these are.
+/// The relation asks of each instance only what its life is, and where its origin is if it lives.
 pub fn lives_may_change()
     ensures { (life life' : Instance → Life) (remote remote' : Instance → Endpoint) (n : Network)
-        (t : NetState) → ((p : Instance) → life p ≡ Alive
-        → (life' p ≡ Alive) × (remote' p ≡ remote p)) → ((p : Instance) → life' p ≡ Alive
-        → life p ≡ Alive) → NetStands life remote n t → NetStands life' remote' n t }
+        (t : NetState) → ((p : Instance) → life' p ≡ life p)
+        → ((p : Instance) → life p ≡ Alive → remote' p ≡ remote p)
+        → NetStands life remote n t → NetStands life' remote' n t }
 {}

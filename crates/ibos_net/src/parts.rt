@@ -3,16 +3,18 @@ use ibos_flow::FlowTable;
 use ibos_mediate::Mediator;
 use ibos_pool::{Mem, Pool};
 use ibos_recv::Inboxes;
+use ibos_send::Sends;
 use std::marker::Model;
 
-/// The mediator, the memory and the names of its buffers, the flows and the inboxes. They can't be
-/// dropped.
+/// The mediator, the memory and the names of its buffers, the flows, the inboxes and the sends. They
+/// can't be dropped.
 pub(crate) struct Parts {
     pub(crate) med: Mediator,
     pub(crate) mem: Mem,
     pub(crate) pool: Pool,
     pub(crate) flows: FlowTable,
     pub(crate) inboxes: Inboxes,
+    pub(crate) sends: Sends,
 }
 
 impl Model for Parts {
@@ -26,5 +28,6 @@ impl Model for Parts {
       names = p.pool;
       flows = p.flows;
       inboxes = p.inboxes;
+      sends = p.sends;
     } };
 }

@@ -10,6 +10,7 @@ ghost use Rattle.ibos_net.specs.NetStanding.{IsSafe, Serves, areas_of, posts_of}
 
 use crate::parts::Parts;
 use ibos_kinds::{Head, Item, Memory, Outcome};
+use ibos_mediate::other_changes_keep_the_frames;
 use ibos_nic::Nic;
 
 impl Parts {
@@ -47,6 +48,8 @@ impl Parts {
         ensures areas { areas_of self.new ≡ areas_of self.old }
         ensures posts { posts_of self.new ≡ posts_of self.old }
     {
+        // called for what its clauses say
+        other_changes_keep_the_frames();
         match self.med.write(offset, value, nic, &self.mem) {
             Ok(()) => {}
             Err(rule) => {

@@ -16,6 +16,7 @@ use ibos_mediate::{Mediator, bells_end, frames_are_counted, relation_begins};
 use ibos_nic::{Nic, Reg};
 use ibos_pool::{Mem, Pool};
 use ibos_recv::Inboxes;
+use ibos_send::Sends;
 use std::alloc::Global;
 
 // The first four bytes of a MAC address, the first lowest.
@@ -50,6 +51,13 @@ impl Parts {
         let mut pool = Pool::new(alloc)?;
         let flows = FlowTable::new(alloc)?;
         let inboxes = Inboxes::new(alloc)?;
+        let sends = match Sends::new(alloc) {
+            Ok(sends) => sends,
+            Err(Memory) => {
+                inboxes.close(&mut pool);
+                return Err(Memory);
+            }
+        };
         match Mediator::new(alloc) {
             Ok(med) => Ok(Parts {
                 med,
@@ -57,9 +65,11 @@ impl Parts {
                 pool,
                 flows,
                 inboxes,
+                sends,
             }),
             Err(Memory) => {
                 inboxes.close(&mut pool);
+                sends.close(&mut pool);
                 Err(Memory)
             }
         }

@@ -1,4 +1,5 @@
 use Rattle.std.proofs.Common.{sym, ◌∙◌, ap}
+use Rattle.ibos_kinds.specs.declared.act.Act.TheVariants.{Fill, Submit, TxPost, TxBell, WireOut}
 use Rattle.ibos_net.proofs.Words.{Bind, Done, List, RegRead, RegWrite, RxBell, RxPost, Unbind, WireIn, ℕ}
 use Rattle.ibos_net.proofs.Outcomes.{left-at, on-err, served-at}
 use Rattle.ibos_net.proofs.net.Net.serve.Goals as goal
@@ -54,3 +55,37 @@ returns-in_ok-arrive-in-WireIn-clause-makes g c =
 pub returns-in_err-arrive-in-WireIn-clause-loses : goal.returns-in_err-arrive-in-WireIn-clause-loses
 returns-in_err-arrive-in-WireIn-clause-loses g c =
     on-err c.from_residual-in_err-arrive-in-WireIn.result (left-at c.args.local.now (WireIn c.as_slice.result.now) c.args.act.now c.self.inside.parts c.args.self.now (g.N.Nic.regs c.args.nic.now) (g.N.Nic.log c.args.nic.now) (g.N.Nic.log c.arrive.new.nic) (c.in-WireIn.is ∙ ap (λ (f : List ℕ). WireIn f) (sym c.as_slice.ensures)) c.self.view_is (c.in_err-arrive-in-WireIn.ensures.leaves c.args.local.now))
+
+pub returns-in-Fill-clause-makes : goal.returns-in-Fill-clause-makes
+returns-in-Fill-clause-makes g c =
+    let regs = g.N.Nic.regs c.args.nic.now in
+    let log = g.N.Nic.log c.args.nic.now in
+    served-at c.args.local.now (Fill c.in-Fill.who c.in-Fill.buffer c.in-Fill.place c.as_slice-in-Fill.result.now) c.args.act.now c.fill.new.out c.self.inside.parts c.args.self.now c.fill.new.self regs regs log log (c.in-Fill.is ∙ ap (λ (f : List ℕ). Fill c.in-Fill.who c.in-Fill.buffer c.in-Fill.place f) (sym c.as_slice-in-Fill.ensures)) c.self.view_is (c.fill.ensures.serves c.args.local.now regs log)
+
+pub returns-in_ok-submit-in-Submit-clause-makes : goal.returns-in_ok-submit-in-Submit-clause-makes
+returns-in_ok-submit-in-Submit-clause-makes g c =
+    let regs = g.N.Nic.regs c.args.nic.now in
+    let log = g.N.Nic.log c.args.nic.now in
+    served-at c.args.local.now (Submit c.in-Submit.who c.in-Submit.buffer c.in-Submit.len) c.args.act.now c.submit.new.out c.self.inside.parts c.args.self.now c.submit.new.self regs regs log log c.in-Submit.is c.self.view_is (c.in_ok-submit-in-Submit.ensures.serves regs log)
+
+pub returns-in-TxPost-clause-makes : goal.returns-in-TxPost-clause-makes
+returns-in-TxPost-clause-makes g c =
+    let regs = g.N.Nic.regs c.args.nic.now in
+    let log = g.N.Nic.log c.args.nic.now in
+    served-at c.args.local.now (TxPost c.in-TxPost.slot c.in-TxPost.send) c.args.act.now c.post_send.new.out c.self.inside.parts c.args.self.now c.post_send.new.self regs regs log log c.in-TxPost.is c.self.view_is (c.post_send.ensures.serves c.args.local.now regs log)
+
+pub returns-in_ok-bell_sends-in-TxBell-clause-makes : goal.returns-in_ok-bell_sends-in-TxBell-clause-makes
+returns-in_ok-bell_sends-in-TxBell-clause-makes g c =
+    let regs = g.N.Nic.regs c.args.nic.now in
+    let log = g.N.Nic.log c.args.nic.now in
+    served-at c.args.local.now TxBell c.args.act.now c.bell_sends.new.out c.self.inside.parts c.args.self.now c.bell_sends.new.self regs regs log log c.in-TxBell.is c.self.view_is (c.in_ok-bell_sends-in-TxBell.ensures.serves c.args.local.now regs log)
+
+pub returns-in_ok-transmit-in-WireOut-clause-makes : goal.returns-in_ok-transmit-in-WireOut-clause-makes
+returns-in_ok-transmit-in-WireOut-clause-makes g c =
+    let regs = g.N.Nic.regs c.args.nic.now in
+    let log = g.N.Nic.log c.args.nic.now in
+    served-at c.args.local.now WireOut c.args.act.now c.transmit.new.out c.self.inside.parts c.args.self.now c.transmit.new.self regs (g.N.Nic.regs c.transmit.new.nic) log (g.N.Nic.log c.transmit.new.nic) c.in-WireOut.is c.self.view_is (c.in_ok-transmit-in-WireOut.ensures.serves c.args.local.now)
+
+pub returns-in_err-transmit-in-WireOut-clause-loses : goal.returns-in_err-transmit-in-WireOut-clause-loses
+returns-in_err-transmit-in-WireOut-clause-loses g c =
+    on-err c.from_residual-in_err-transmit-in-WireOut.result (left-at c.args.local.now WireOut c.args.act.now c.self.inside.parts c.args.self.now (g.N.Nic.regs c.args.nic.now) (g.N.Nic.log c.args.nic.now) (g.N.Nic.log c.transmit.new.nic) c.in-WireOut.is c.self.view_is (c.in_err-transmit-in-WireOut.ensures.leaves c.args.local.now))

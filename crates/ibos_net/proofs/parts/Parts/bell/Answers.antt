@@ -1,39 +1,43 @@
 use Rattle.std.proofs.Common.{refl, sym, subst, ap, ◌∙◌}
-use Rattle.ibos_net.proofs.Words.{Arrival, Fine, IsSafe, Item, List, NetState, Receive, RxBell, [], ◌++◌, ◌≡◌, arrivals, bell_over, bound_by, held_in, map, received_frames, unread_of}
-use Rattle.ibos_net.proofs.AreasGrown.{hands-alone}
+use Rattle.ibos_net.proofs.Words.{Transmit, count_of, held_to_send, Arrival, Fine, IsSafe, Item, List, NetState, Receive, RingView, RxBell, posts_of, [], ◌+◌, ◌++◌, ◌≡◌, arrivals, bell_over, bound_by, held_in, map, received_frames, unread_of}
 use Rattle.ibos_net.proofs.Outcomes.{outcome-of, served-now}
-use Rattle.ibos_net.proofs.BellServed.{after, bell-posts, bell-serves, belled-safe, items-same}
+use Rattle.ibos_net.proofs.BellServed.{after, bell-left, bell-posts, bell-serves, belled-safe, items-same}
 use Rattle.ibos_net.proofs.parts.Parts.bell.Goals as goal
 
 pub returns-in_err-serve-clause-safe : goal.returns-in_err-serve-clause-safe
 returns-in_err-serve-clause-safe c =
     let p = c.self.inside in
-    let t : NetState = record { med = p.med; mem = p.mem; names = p.pool; flows = p.flows; inboxes = p.inboxes } in
+    let t : NetState = record { med = p.med; mem = p.mem; names = p.pool; flows = p.flows; inboxes = p.inboxes; sends = p.sends } in
     let safe : IsSafe t = subst IsSafe (sym c.self.view_is) c.requires.safe in
     let e = c.serve.ensures in
     let new = c.serve.new in
-    belled-safe t new.med new.mem new.pool new.inboxes safe e.memory e.owned e.unheld (hands-alone t.names new.pool t.mem new.mem (held_in t.inboxes) (held_in new.inboxes) (e.hands []) safe.hands) (λ q. (e.open q).0)
+    belled-safe t new.med new.mem new.pool new.inboxes safe e.memory e.owned e.unheld (e.hands (held_to_send t.sends) safe.hands) (λ q. (e.open q).0)
+    (bell-left t new.med new.mem safe e.transmit (e.done Transmit) e.unsent (c.hands_are_parted.ensures.front t.names t.mem (held_in t.inboxes) (held_to_send t.sends) safe.hands) (c.hands_are_parted.ensures.back t.names t.mem (held_in t.inboxes) (held_to_send t.sends) safe.hands) (λ held q hands there. c.hands_are_parted.ensures.kept t.names t.mem held q hands there)
+    (λ held more q hands there. c.hands_are_parted.ensures.apart t.names t.mem held more q hands there) (c.hands_are_parted.ensures.swapped t.names t.mem (held_in t.inboxes) (held_to_send t.sends) safe.hands) (λ q. e.served.buffers q))
 
 pub returns-clause-safe : goal.returns-clause-safe
 returns-clause-safe c =
     let p = c.self.inside in
-    let t : NetState = record { med = p.med; mem = p.mem; names = p.pool; flows = p.flows; inboxes = p.inboxes } in
+    let t : NetState = record { med = p.med; mem = p.mem; names = p.pool; flows = p.flows; inboxes = p.inboxes; sends = p.sends } in
     let safe : IsSafe t = subst IsSafe (sym c.self.view_is) c.requires.safe in
     let e = c.serve.ensures in
     let new = c.serve.new in
-    belled-safe t new.med new.mem new.pool new.inboxes safe e.memory e.owned e.unheld (hands-alone t.names new.pool t.mem new.mem (held_in t.inboxes) (held_in new.inboxes) (e.hands []) safe.hands) (λ q. (e.open q).0)
+    belled-safe t new.med new.mem new.pool new.inboxes safe e.memory e.owned e.unheld (e.hands (held_to_send t.sends) safe.hands) (λ q. (e.open q).0)
+    (bell-left t new.med new.mem safe e.transmit (e.done Transmit) e.unsent (c.hands_are_parted.ensures.front t.names t.mem (held_in t.inboxes) (held_to_send t.sends) safe.hands) (c.hands_are_parted.ensures.back t.names t.mem (held_in t.inboxes) (held_to_send t.sends) safe.hands) (λ held q hands there. c.hands_are_parted.ensures.kept t.names t.mem held q hands there)
+    (λ held more q hands there. c.hands_are_parted.ensures.apart t.names t.mem held more q hands there) (c.hands_are_parted.ensures.swapped t.names t.mem (held_in t.inboxes) (held_to_send t.sends) safe.hands) (λ q. e.served.buffers q))
 
 pub returns-clause-posts : goal.returns-clause-posts
 returns-clause-posts c =
     let p = c.self.inside in
-    let t : NetState = record { med = p.med; mem = p.mem; names = p.pool; flows = p.flows; inboxes = p.inboxes } in
+    let t : NetState = record { med = p.med; mem = p.mem; names = p.pool; flows = p.flows; inboxes = p.inboxes; sends = p.sends } in
     let safe : IsSafe t = subst IsSafe (sym c.self.view_is) c.requires.safe in
-    bell-posts t.med c.serve.new.med t.mem safe.memory c.in_ok-serve.ensures.bell ∙ ap (λ (x : NetState). x.med.receive.values.posted) c.self.view_is
+    ap (λ k. k + c.serve.new.med.transmit.values.posted + count_of t.sends) (bell-posts t.med c.serve.new.med t.mem safe.memory c.in_ok-serve.ensures.bell)
+    ∙ ap (λ (r : RingView). t.med.receive.values.posted + r.values.posted + count_of t.sends) c.serve.ensures.transmit ∙ ap posts_of c.self.view_is
 
 pub returns-clause-serves : goal.returns-clause-serves
 returns-clause-serves c = λ regs log.
     let p = c.self.inside in
-    let t : NetState = record { med = p.med; mem = p.mem; names = p.pool; flows = p.flows; inboxes = p.inboxes } in
+    let t : NetState = record { med = p.med; mem = p.mem; names = p.pool; flows = p.flows; inboxes = p.inboxes; sends = p.sends } in
     let safe : IsSafe t = subst IsSafe (sym c.self.view_is) c.requires.safe in
     let e = c.serve.ensures in
     let done = c.in_ok-serve.ensures in
@@ -45,4 +49,6 @@ returns-clause-serves c = λ regs log.
     served-now c.args.local.now RxBell _ _ t _ (after t new.med new.mem new.pool new.inboxes) _ regs regs log log (outcome-of new.out Fine items (e.head ∙ c.requires.head) told) c.self.view_is refl
     (λ life remote n s each lives. bell-serves c.args.local.now life remote n t new.med new.mem new.pool new.inboxes regs log items safe s each
     (items-same c.args.local.now life remote n t safe s (bytes t.mem t.med) (c.frames_are_counted.ensures.received t.mem t.med.receive) (c.inboxes_keep_their_frames.ensures.count t.mem t.inboxes))
-    done.frames done.bell e.transmit (e.done Receive) none (λ q. (e.open q).1) e.memory e.device e.served.pool_areas e.served.areas)
+    done.frames done.bell e.transmit (e.done Receive) none (λ q. (e.open q).1) e.memory e.device e.served.pool_areas e.served.areas
+    (bell-left t new.med new.mem safe e.transmit (e.done Transmit) e.unsent (c.hands_are_parted.ensures.front t.names t.mem (held_in t.inboxes) (held_to_send t.sends) safe.hands) (c.hands_are_parted.ensures.back t.names t.mem (held_in t.inboxes) (held_to_send t.sends) safe.hands) (λ held q hands there. c.hands_are_parted.ensures.kept t.names t.mem held q hands there)
+    (λ held more q hands there. c.hands_are_parted.ensures.apart t.names t.mem held more q hands there) (c.hands_are_parted.ensures.swapped t.names t.mem (held_in t.inboxes) (held_to_send t.sends) safe.hands) (λ q. e.served.buffers q)))
