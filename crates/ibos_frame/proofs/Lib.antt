@@ -1,3 +1,4 @@
+mod BodyDrawn
 mod DrawnLines
 mod ScreenPixels
 mod ContentPlaces

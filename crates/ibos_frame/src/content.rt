@@ -55,8 +55,9 @@ impl Content {
         requires rows { row + height ≤ content_rows }
         requires columns { col + width ≤ columns }
         requires count { length pixels.now ≡ height * width }
-        ensures { (r c : ℕ) → c < 80 → slice_index self.new (80 * r + c)
+        ensures drawn { (r c : ℕ) → c < 80 → slice_index self.new (80 * r + c)
             ≡ cell_after row col height width pixels.now r c (slice_index self.old (80 * r + c)) }
+        ensures size { length self.new ≡ 1760 }
     {
         paint(self.pixels.as_mut_slice(), row, col, height, width, pixels);
     }
@@ -71,8 +72,15 @@ pub(crate) fn spaces(alloc: Global, count: usize) -> Result<Vec<u8>, Memory>
     Ok(spaces)
 }
 
-// Writes a region of rows of 80 pixels.
-fn paint(target: &mut [u8], row: usize, col: usize, height: usize, width: usize, pixels: &[u8])
+/// Writes a region of 22 rows of 80 pixels.
+pub(crate) fn paint(
+    target: &mut [u8],
+    row: usize,
+    col: usize,
+    height: usize,
+    width: usize,
+    pixels: &[u8],
+)
     requires size { length target.old ≡ 1760 }
     requires rows { row + height ≤ content_rows }
     requires columns { col + width ≤ columns }

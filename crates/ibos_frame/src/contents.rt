@@ -1,6 +1,6 @@
 // The contents of all instances.
 ghost use Rattle.std.specs.Prelude.{◌≡◌, ◌≢◌, ℕ, ◌+◌, ◌*◌, ◌<◌, ◌≤◌, length, slice_index_or};
-ghost use Rattle.std.specs.Prelude.{slice_index, None, Some, OnOk, OnErr, vec_len};
+ghost use Rattle.std.specs.Prelude.{slice_index, None, Some, OnOk, OnErr, IfSome, vec_len};
 ghost use Rattle.ibos_kinds.specs.declared.names.Instance.{Instance};
 ghost use Rattle.ibos_kinds.specs.Screens.{content_rows, columns, cell_after};
 ghost use Rattle.ibos_frame.specs.ScreenStates.{content_in, pixel_in};
@@ -87,6 +87,7 @@ impl Contents {
         ensures own { (r c : ℕ) → c < 80 → pixel_in (content_in self.new who) r c
             ≡ cell_after row col height width pixels.now r c
             (pixel_in (content_in self.old who) r c) }
+        ensures size { IfSome (content_in self.new who) (λ pixels. length pixels ≡ 1760) }
         ensures others { (q : Instance) → q ≢ who → content_in self.new q ≡ content_in self.old q }
     {
         match &mut self.places[place_of(who)] {

@@ -1,10 +1,10 @@
 // The rows that are seen.
 ghost use Rattle.std.specs.Prelude.{◌≡◌, ◌≢◌, ℕ, ◌+◌, ◌*◌, ◌<◌, ◌≤◌, ◌++◌, length, take, drop};
-ghost use Rattle.std.specs.Prelude.{replicate, IfOk};
-ghost use Rattle.ibos_kinds.specs.Screens.{columns, padded, space};
+ghost use Rattle.std.specs.Prelude.{replicate, slice_index, IfOk};
+ghost use Rattle.ibos_kinds.specs.Screens.{columns, content_rows, cell_after, padded, space};
 ghost use Rattle.ibos_frame.specs.ScreenStates.{line_of};
 
-use crate::content::{SPACE, spaces};
+use crate::content::{SPACE, paint, spaces};
 use ibos_kinds::{CHROME_ROWS, COLUMNS, Memory, SCREEN_ROWS};
 use std::alloc::Global;
 use std::marker::Model;
@@ -65,6 +65,27 @@ impl Rows {
         clear_body(self.pixels.as_mut_slice());
     }
 
+    /// Writes a region of the rows below the chrome, row by row, and no other cell.
+    pub(crate) fn draw(
+        &mut self,
+        row: usize,
+        col: usize,
+        height: usize,
+        width: usize,
+        pixels: &[u8],
+    )
+        requires rows { row + height ≤ content_rows }
+        requires columns { col + width ≤ columns }
+        requires count { length pixels.now ≡ height * width }
+        ensures drawn { (r c : ℕ) → c < 80 → slice_index self.new.body (80 * r + c)
+            ≡ cell_after row col height width pixels.now r c
+            (slice_index self.old.body (80 * r + c)) }
+        ensures size { length self.new.body ≡ 1760 }
+        ensures chrome { self.new.chrome ≡ self.old.chrome }
+    {
+        paint_body(self.pixels.as_mut_slice(), row, col, height, width, pixels);
+    }
+
     /// Makes a row of the chrome a text, padded by spaces.
     pub(crate) fn write(&mut self, row: usize, text: &[u8])
         requires row { row < 3 }
@@ -85,6 +106,20 @@ fn write_body(pixels: &mut [u8], content: &[u8])
     ensures body { drop 240 pixels.new ≡ content.now }
 {
     pixels[CHROME..].copy_from_slice(content);
+}
+
+fn paint_body(screen: &mut [u8], row: usize, col: usize, height: usize, width: usize, pixels: &[u8])
+    requires screen { length screen.old ≡ 2000 }
+    requires rows { row + height ≤ content_rows }
+    requires columns { col + width ≤ columns }
+    requires count { length pixels.now ≡ height * width }
+    ensures chrome { take 240 screen.new ≡ take 240 screen.old }
+    ensures body { (r c : ℕ) → c < 80 → slice_index (drop 240 screen.new) (80 * r + c)
+        ≡ cell_after row col height width pixels.now r c
+        (slice_index (drop 240 screen.old) (80 * r + c)) }
+    ensures size { length (drop 240 screen.new) ≡ 1760 }
+{
+    paint(&mut screen[CHROME..], row, col, height, width, pixels);
 }
 
 fn clear_body(pixels: &mut [u8])

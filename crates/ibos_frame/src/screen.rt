@@ -86,7 +86,7 @@ impl Screen {
         ensures chrome { self.new.chrome ≡ self.old.chrome }
     {
         self.contents.end(who);
-        if is_shown(self.shown, who) {
+        if is_shown(self.shown, Some(who)) {
             self.shown = None;
             self.rows.hide();
         }
@@ -116,27 +116,26 @@ impl Screen {
         ensures err { OnErr result (self.new ≡ self.old) }
     {
         check(row, col, height, width, pixels)?;
-        self.contents.draw(
-            who,
-            row as usize,
-            col as usize,
-            height as usize,
-            width as usize,
-            pixels,
-        );
-        if is_shown(self.shown, who) {
-            self.rows.show(self.contents.pixels(who));
+        let (row, col) = (row as usize, col as usize);
+        let (height, width) = (height as usize, width as usize);
+        self.contents.draw(who, row, col, height, width, pixels);
+        if is_shown(self.shown, Some(who)) {
+            self.rows.draw(row, col, height, width, pixels);
         }
         Ok(())
     }
 
-    /// Puts an instance's content on the screen, or blanks.
+    /// Puts an instance's content on the screen, or blanks. What is shown already isn't written
+    /// again.
     pub fn show(&mut self, active: Option<Instance>)
         requires { IfSome active (λ who. is_open self.old who ≡ true) }
         ensures shown { self.new.shown ≡ active }
         ensures contents { (q : Instance) → content_of self.new q ≡ content_of self.old q }
         ensures chrome { self.new.chrome ≡ self.old.chrome }
     {
+        if is_shown(self.shown, active) {
+            return;
+        }
         self.shown = active;
         match active {
             Some(who) => self.rows.show(self.contents.pixels(who)),
@@ -166,10 +165,10 @@ impl Screen {
     }
 }
 
-fn is_shown(shown: Option<Instance>, who: Instance) -> bool
-    ensures { IsTrue result ↔ (shown ≡ Some who) }
+fn is_shown(shown: Option<Instance>, active: Option<Instance>) -> bool
+    ensures { IsTrue result ↔ (shown ≡ active) }
 {
-    shown == Some(who)
+    shown == active
 }
 
 #[tactic(auto, unfolding(ibos_kinds::specs::Screens::is_region))]
