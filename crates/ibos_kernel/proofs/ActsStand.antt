@@ -36,20 +36,25 @@ use Rattle.ibos_page.specs.Tabs.{without}
 use Rattle.ibos_model.specs.Focus.{without as spec_without}
 use Rattle.ibos_model.specs.Tabs.{changed_by, opening, leave, entering, end, if_ok}
 use Rattle.ibos_model.specs.Outcomes.{page_key_outcome}
-use Rattle.ibos_model.specs.Laws.{AreSetsPut}
+use Rattle.ibos_model.specs.Laws.{AreSetsPut, AreUnbornQuiet}
+use Rattle.ibos_model.specs.Stored.{objects_of, requests_of}
+use Rattle.ibos_store.specs.Stores.{OriginObjects, objects_in, requests_of as requests_kept}
 use Rattle.ibos_kernel.proofs.TabsStanding.{seat-with}
 use Rattle.ibos_kernel.proofs.Outcomes.{outcome_seen, outcome-seen, outcome_stands, lives_if, enter_seen, active_same, active_lives}
 use Rattle.ibos_kernel.proofs.ScreenStands.{step_displays, active_within, start_page, let_in_ok}
+use Rattle.ibos_kernel.proofs.StoredStand.{objects_stand, requests_stand}
 
 -- a kernel that has made no act
 pub new_holds : (parts : Parts) (table : TabTable) → parts.tabs ≡ table → length table.seats ≡ 64 → ((tab : ℕ) → seat_at table tab ≡ empty_seat) → table.active ≡ None → parts.jars ≡ []
-    → parts.focus ≡ record { entry_line = []; spot = Entry } → IsBeside parts.tabs parts.screen → IsComposed parts.tabs parts.screen parts.focus → PartsStand [] parts
-unfolding tabs focus_of sets_of jar cell_of
-new_holds parts table is room empty none no_jars focus beside composed = record {
+    → parts.store.origins ≡ [] → ((q : Instance) → requests_kept parts.store q ≡ None) → parts.focus ≡ record { entry_line = []; spot = Entry } → IsBeside parts.tabs parts.screen → IsComposed parts.tabs parts.screen parts.focus → PartsStand [] parts
+unfolding tabs focus_of sets_of jar cell_of objects_of
+new_holds parts table is room empty none no_jars no_objects no_requests focus beside composed = record {
   run = tt;
   tabs = none_stand parts.tabs (rw is room) (rw is empty);
   active = rw is (sym none);
   jars = λ o. ap (λ (js : List OriginJar). jar_of js o) no_jars;
+  objects = λ o. ap (λ (entries : List OriginObjects). objects_in entries o) no_objects;
+  requests = λ q. no_requests q ∙ sym (unasked q (is_live_in q (seat_at parts.tabs q.tab)) refl);
   displays = record {
     spot = rw focus refl;
     entry_line = rw focus refl;
@@ -61,6 +66,10 @@ new_holds parts table is room empty none no_jars focus beside composed = record 
   where
     none_lives : (q : Instance) → is_live_in q empty_seat ≡ true → ⊥
     none_lives q h = cc
+
+    unasked : (q : Instance) (lives : Bool) → is_live_in q (seat_at parts.tabs q.tab) ≡ lives → (if lives then Some (requests_of [] q) else None) ≡ None
+    unasked q true live = absurd (none_lives q (rw (is, empty q.tab) at live))
+    unasked q false dead = refl
 
 -- which tab is active shows in no other view
 with_active : (T : Tabs) (t : TabTable) (active : Option ℕ) → TabsStand T t → TabsStand T (record t { active = active })
@@ -241,8 +250,8 @@ jars_stand law J t (CookieSet side who text) outcome log stands is o = set (is_o
 jars_stand law J t other outcome log stands is o = stands.jars o
 
 -- an act that the parts serve
-pub step_holds : AreSetsPut → (J : Journal) (old new : Parts) (act : Act) (outcome : Outcome) (log : List LogEntry) → is_net act ≡ false → PartsStand J old → Fits act → Serves old act outcome new → PartsStand (entry act outcome log ∷ J) new
-step_holds law J old new act outcome log page stands fits serves =
+pub step_holds : AreSetsPut → AreUnbornQuiet → (J : Journal) (old new : Parts) (act : Act) (outcome : Outcome) (log : List LogEntry) → is_net act ≡ false → PartsStand J old → Fits act → Serves old act outcome new → PartsStand (entry act outcome log ∷ J) new
+step_holds law quiet J old new act outcome log page stands fits serves =
     let outcome_is : outcome ≡ outcome_seen old act = serves.outcome_is ∙ outcome-seen J old act stands in
     let H : HostTable = old.hosts in
     let P : HostTable → Type 0 = λ T. IsRun T (entry act outcome log ∷ J) in
@@ -253,6 +262,8 @@ step_holds law J old new act outcome log page stands fits serves =
       tabs = subst S (sym serves.hosts_are) (subst Q (sym serves.tabs_are) (tabs_stand J old act outcome log stands fits outcome_is));
       active = active_stands J old act outcome log stands outcome_is ∙ ap (λ (table : TabTable). table.active) (sym serves.tabs_are);
       jars = λ o. serves.jars_are o ∙ jars_stand law J old act outcome log stands outcome_is o ∙ ap (λ (T : HostTable). jar (sets_of T (entry act outcome log ∷ J) o)) (sym serves.hosts_are);
+      objects = λ o. serves.objects_are o ∙ objects_stand J old act outcome log stands outcome_is o ∙ ap (λ (T : HostTable). objects_of T (entry act outcome log ∷ J) o) (sym serves.hosts_are);
+      requests = requests_stand quiet J old new act outcome log stands fits serves outcome_is;
       displays = step_displays J old new act outcome log stands fits serves outcome_is;
     }
 

@@ -62,7 +62,7 @@ differs p q other e = let it : same p p ≡ false = subst (λ (x : Instance). sa
     clash true h i = cc
     clash false h i = cc
 
-live_opened : (t : TabTable) (tab : ℕ) (page : Page) (q : Instance) → length t.seats ≡ 64 → tab < 64 → (seat_at t tab).page ≡ None
+pub live_opened : (t : TabTable) (tab : ℕ) (page : Page) (q : Instance) → length t.seats ≡ 64 → tab < 64 → (seat_at t tab).page ≡ None
     → is_live (with_seat t tab (opened page (seat_at t tab))) q ≡ (if same (next_at t tab) q then true else is_live t q)
 live_opened t tab page q room within free = rw (seat-with t tab q.tab (opened page (seat_at t tab)) room within) (by_tab (q.tab == tab) refl)
   where
@@ -70,7 +70,7 @@ live_opened t tab page q room within free = rw (seat-with t tab q.tab (opened pa
     by_tab true here = let e : q.tab ≡ tab = grind (arith, nat_tests) in rw e (grind (arith, nat_tests, free, here))
     by_tab false here = grind (arith, nat_tests, here)
 
-next_not_live : (t : TabTable) (tab : ℕ) → (seat_at t tab).page ≡ None → is_live t (next_at t tab) ≡ false
+pub next_not_live : (t : TabTable) (tab : ℕ) → (seat_at t tab).page ≡ None → is_live t (next_at t tab) ≡ false
 next_not_live t tab free = rw free refl
 
 next_follows : (t : TabTable) (tab : ℕ) (page : Page) (f g : ScreenState) → IsBeside t f → tab < 64 → (seat_at t tab).page ≡ None
@@ -110,10 +110,10 @@ pub follows_started : (t : TabTable) (tab : ℕ) (page : Page) (who : Instance) 
 follows_started t tab page who f g is beside within free begun blank others =
     next_follows t tab page f g beside within free (ap (is_open g) is ∙ begun) (λ r c low left. ap (λ q. content_at g q r c) is ∙ blank r c low left) (λ q other. others q (λ e. other (e ∙ sym is)))
 
-abbrev after : Instance → Instance
+abbrev pub after : Instance → Instance
 after who = record { tab = who.tab; ord = who.ord + 1 }
 
-live_replaced : (t : TabTable) (who : Instance) (page : Page) (q : Instance) → length t.seats ≡ 64 → who.tab < 64 → is_some (seat_at t who.tab).page ≡ true → who.ord + 1 ≡ (seat_at t who.tab).count
+pub live_replaced : (t : TabTable) (who : Instance) (page : Page) (q : Instance) → length t.seats ≡ 64 → who.tab < 64 → is_some (seat_at t who.tab).page ≡ true → who.ord + 1 ≡ (seat_at t who.tab).count
     → is_live (with_seat t who.tab (opened page (seat_at t who.tab))) q ≡ (if same (after who) q then true else if same who q then false else is_live t q)
 live_replaced t who page q room within there newest = rw (seat-with t who.tab q.tab (opened page (seat_at t who.tab)) room within) (by_tab (q.tab == who.tab) refl)
   where

@@ -1,5 +1,6 @@
 -- What both halves stand for, as the kernel says it.
-use Rattle.std.proofs.Common.{◌≡◌, ℕ, ◌+◌, ◌<◌, Bool, true, List, [], ◌∷◌, suc, refl, sym, ◌∙◌, ap, subst, arith}
+use Rattle.std.proofs.Common.{◌≡◌, ℕ, ◌+◌, ◌<◌, ◌≤◌, ◌^◌, Bool, true, List, [], ◌∷◌, suc, refl, sym, ◌∙◌, ap, subst, arith}
+use Rattle.std.specs.List.{All}
 use Rattle.std.specs.Prelude.{slice_index_or}
 use Rattle.ibos_kinds.specs.declared.act.Act.{Act}
 use Rattle.ibos_kinds.specs.declared.names.Endpoint.{Endpoint}
@@ -12,10 +13,11 @@ use Rattle.ibos_origin.specs.Hosts.{HostTable}
 use Rattle.ibos_page.specs.Seats.{Seat}
 use Rattle.ibos_page.specs.Tabs.{TabTable, empty_seat, seat_at}
 use Rattle.ibos_frame.specs.ScreenStates.{seen_at}
-use Rattle.ibos_model.specs.Journal.{Journal}
-use Rattle.ibos_model.specs.Laws.{IsCarried, IsCarriedAlways}
-use Rattle.ibos_model.specs.Logs.{Loses, sent_in, written_in}
-use Rattle.ibos_model.specs.Network.{Network, network, no_network}
+use Rattle.ibos_model.specs.Journal.{Journal, frame_of}
+use Rattle.ibos_model.specs.Laws.{AreSentRightly, IsCarried, IsCarriedAlways, IsOfASend}
+use Rattle.ibos_model.specs.Logs.{Loses, got_for, log_after, sent_in, written_in}
+use Rattle.ibos_model.specs.Network.{Network, network, next_frame, no_network}
+use Rattle.ibos_model.specs.Runs.{IsRun}
 use Rattle.ibos_model.specs.Outcomes.{out}
 use Rattle.ibos_model.specs.Screen.{screen}
 use Rattle.ibos_model.specs.Tabs.{Life, Unborn, Alive, life_of, tabs}
@@ -25,9 +27,11 @@ use Rattle.ibos_kernel.specs.Standing.{Agrees, IsCounted, IsSound, NetStandsFor,
 use Rattle.ibos_kernel.specs.Halves.{GoOn, HalvesStand}
 use Rattle.ibos_kernel.proofs.LogsGrow.{written_fits}
 use Rattle.ibos_kernel.proofs.Outcomes.{seen_screen}
+use Rattle.ibos_kernel.proofs.StoredStand.{few_of}
+use Rattle.ibos_kernel.specs.Storage.{IsFew}
 
 abbrev pub view_of : Parts → NetState → ℕ → Bool → Tables
-view_of parts net acts usable = record { hosts = parts.hosts; tabs = parts.tabs; jars = parts.jars; screen = parts.screen; focus = parts.focus; net = net; acts = acts; usable = usable }
+view_of parts net acts usable = record { hosts = parts.hosts; tabs = parts.tabs; jars = parts.jars; store = parts.store; screen = parts.screen; focus = parts.focus; net = net; acts = acts; usable = usable }
 
 -- the halves of what the kernel is seen as
 pub held : (J : Journal) (t : Tables) (parts : Parts) (net : NetState) (acts : ℕ) (usable : Bool) → view_of parts net acts usable ≡ t → Stands J t → HalvesStand J parts net
@@ -79,12 +83,19 @@ pub record Steps (J : Journal) (t t' : Tables) (act : Act) (outcome : Outcome) (
   pub stands : Stands (entry act outcome log ∷ J) t'
   pub agrees : Agrees t.hosts (entry act outcome log ∷ J) f log
   pub carried : IsCarried t.hosts J (entry act outcome log)
+  pub sends : All (IsOfASend t.hosts (entry act outcome log ∷ J)) (sent_in log)
 
-pub steps : IsCarriedAlways → (J : Journal) (t : Tables) (old new : Parts) (net net' : NetState) (acts : ℕ) (usable : Bool) (act : Act) (outcome : Outcome) (f f' : Registers) (l l' : List LogEntry)
+-- each frame in the log is that of a right send
+pub step_sends : AreSentRightly → (H : HostTable) (J : Journal) (f : Registers) (l : List LogEntry) → IsRun H J → Agrees H J f l → All (IsOfASend H J) (sent_in l)
+step_sends law H J f l run agrees =
+    let P : List (List ℕ) → Type 0 = All (IsOfASend H J) in
+    subst P (sym agrees.sent) (law H J run)
+
+pub steps : IsCarriedAlways → AreSentRightly → (J : Journal) (t : Tables) (old new : Parts) (net net' : NetState) (acts : ℕ) (usable : Bool) (act : Act) (outcome : Outcome) (f f' : Registers) (l l' : List LogEntry)
     → view_of old net acts usable ≡ t → Stands J t → Agrees t.hosts J f l → new.hosts ≡ old.hosts
     → ((K : Journal) → HalvesStand K old net → Agrees old.hosts K f l → GoOn K old act outcome new net' f' l')
     → Steps J t (view_of new net' (acts + 1) usable) act outcome f' l'
-steps law J t old new net net' acts usable act outcome f f' l l' view stands agrees hosts goes =
+steps law right J t old new net net' acts usable act outcome f f' l l' view stands agrees hosts goes =
     let P : Tables → Type 0 = λ k. Stands J k → Agrees k.hosts J f l → Steps J k (view_of new net' (acts + 1) usable) act outcome f' l' in
     subst P view here stands agrees
   where
@@ -101,15 +112,41 @@ steps law J t old new net net' acts usable act outcome f f' l l' view stands agr
           };
           agrees = gone.agrees;
           carried = law old.hosts J (entry act outcome l') (record { outcome = gone.outcome_is; written = written_fits outcome l' }, stood.parts.run);
+          sends = step_sends right old.hosts (entry act outcome l' ∷ J) f' l' (record { outcome = gone.outcome_is; written = written_fits outcome l' }, stood.parts.run) gone.agrees;
         }
+
+-- the kernel may step again
+pub step_sound : IsCarriedAlways → AreSentRightly → (J : Journal) (t : Tables) (old new : Parts) (net net' : NetState) (acts : ℕ) (usable : Bool) (act : Act) (outcome : Outcome) (f f' : Registers) (l l' : List LogEntry)
+    → view_of old net acts usable ≡ t → Stands J t → Agrees t.hosts J f l → new.hosts ≡ old.hosts
+    → ((K : Journal) → HalvesStand K old net → Agrees old.hosts K f l → GoOn K old act outcome new net' f' l')
+    → IsSound (view_of old net acts usable) → IsCounted new.tabs net' → posts_of net' ≤ posts_of net + 1 → IsSound (view_of new net' (acts + 1) usable)
+step_sound law right J t old new net net' acts usable act outcome f f' l l' view stands agrees hosts goes was counted posts = record {
+  counted = counted;
+  posts = omega (arith, was.posts, posts);
+  stood = (entry act outcome l' ∷ J, (steps law right J t old new net net' acts usable act outcome f f' l l' view stands agrees hosts goes).stands);
+}
 
 pub step_loses : (J : Journal) (t : Tables) (old : Parts) (net : NetState) (acts : ℕ) (usable : Bool) (act : Act) (f : Registers) (l l' : List LogEntry)
     → view_of old net acts usable ≡ t → Stands J t → Agrees t.hosts J f l
-    → ((K : Journal) → HalvesStand K old net → Agrees old.hosts K f l → Loses (out old.hosts K act) act l l')
-    → Loses (out t.hosts J act) act l l'
+    → ((K : Journal) → HalvesStand K old net → Agrees old.hosts K f l → Loses (out old.hosts K act) act (next_frame (network K)) l l')
+    → Loses (out t.hosts J act) act (next_frame (network J)) l l'
 step_loses J t old net acts usable act f l l' view stands agrees loses =
-    let P : Tables → Type 0 = λ k. Stands J k → Agrees k.hosts J f l → Loses (out k.hosts J act) act l l' in
+    let P : Tables → Type 0 = λ k. Stands J k → Agrees k.hosts J f l → Loses (out k.hosts J act) act (next_frame (network J)) l l' in
     subst P view (λ stood agreed. loses J (record { pages_stand = stood.parts; net_stands = stood.net }) agreed) stands agrees
+
+pub step_log : (J : Journal) (t : Tables) (old : Parts) (net : NetState) (acts : ℕ) (usable : Bool) (act : Act) (outcome : Outcome) (f : Registers) (l l' : List LogEntry)
+    → view_of old net acts usable ≡ t → Stands J t → Agrees t.hosts J f l
+    → ((K : Journal) → HalvesStand K old net → Agrees old.hosts K f l → l' ≡ log_after outcome (frame_of act) (got_for outcome l') (next_frame (network K)) l)
+    → l' ≡ log_after outcome (frame_of act) (got_for outcome l') (next_frame (network J)) l
+step_log J t old net acts usable act outcome f l l' view stands agrees log =
+    let P : Tables → Type 0 = λ k. Stands J k → Agrees k.hosts J f l → l' ≡ log_after outcome (frame_of act) (got_for outcome l') (next_frame (network J)) l in
+    subst P view (λ stood agreed. log J (record { pages_stand = stood.parts; net_stands = stood.net }) agreed) stands agrees
+
+-- each act brings one version and one request more at most
+pub step_few : (J : Journal) (t : Tables) (old : Parts) (net : NetState) (acts : ℕ) (usable : Bool) → view_of old net acts usable ≡ t → Stands J t → t.acts < 2 ^ 31 → IsFew old.store
+step_few J t old net acts usable view stands few =
+    let P : ℕ → Type 0 = λ n. n < 2 ^ 31 in
+    few_of J old (held J t old net acts usable view stands).pages_stand (subst P (sym stands.acts) few)
 
 -- what is denied changes nothing but the count of acts
 pub step_denied : (t : Tables) (old new : Parts) (net net' : NetState) (acts : ℕ) (usable : Bool) → view_of old net acts usable ≡ t → new ≡ old → net' ≡ net

@@ -1,8 +1,11 @@
+pub mod DamagedChrome
 pub mod LogsGrow
 pub mod TabsStanding
 pub mod ScreenSeen
+pub mod StoredKeys
 pub mod Outcomes
 pub mod ScreenStands
+pub mod StoredStand
 pub mod ActsStand
 pub mod NetActs
 pub mod Areas
@@ -11,6 +14,8 @@ pub mod Turned
 pub mod PageActs
 pub mod KernelSteps
 pub mod ContentsFollow
+pub mod StoredPuts
+pub mod RequestsFollow
 pub mod RowsTrimmed
 pub mod KeysDenied
 pub mod ChromeRows

@@ -1,9 +1,9 @@
 -- An act of the net half leaves the half of the pages, and both halves go on to the journal with
 -- its entry.
-use Rattle.std.proofs.Common.{◌≡◌, ℕ, Bool, true, false, List, [], ◌∷◌, Option, Some, None, Result, Ok, Err, OnErr, refl, sym, ◌∙◌, ap, subst}
+use Rattle.std.proofs.Common.{◌≡◌, ℕ, Bool, true, false, List, ◌∷◌, Option, Some, None, Result, Ok, Err, OnErr, refl, sym, ◌∙◌, ap, subst}
 use Rattle.std.specs.Prelude.{nat_lt, if◌then◌else◌}
 use Rattle.ibos_kinds.specs.declared.act.Act.{Act}
-use Rattle.ibos_kinds.specs.declared.act.Act.TheVariants.{Bind, Unbind, Done, RegRead, RegWrite, RxPost, RxBell, WireIn}
+use Rattle.ibos_kinds.specs.declared.act.Act.TheVariants.{Bind, Unbind, Done, RegRead, RegWrite, RxPost, RxBell, WireIn, Fill, Submit, TxPost, TxBell, WireOut}
 use Rattle.ibos_kinds.specs.declared.names.Endpoint.{Endpoint}
 use Rattle.ibos_kinds.specs.declared.names.Instance.{Instance}
 use Rattle.ibos_kinds.specs.declared.names.Local.{Local}
@@ -21,30 +21,34 @@ use Rattle.ibos_route.specs.Parties.{admission_by, admission_of}
 use Rattle.ibos_model.specs.Focus.{Focus, focus_of}
 use Rattle.ibos_model.specs.Jars.{sets_of}
 use Rattle.ibos_model.specs.Journal.{Entry, Journal, frame_of, is_ok}
-use Rattle.ibos_model.specs.Laws.{IsUnchanged, Views}
+use Rattle.ibos_model.specs.Laws.{AreSentInTurn, IsUnchanged, Views}
 use Rattle.ibos_model.specs.Logs.{Loses, got_for, log_after}
-use Rattle.ibos_model.specs.Network.{Network, network}
+use Rattle.ibos_model.specs.Network.{Network, network, next_frame, sent_frames}
 use Rattle.ibos_model.specs.Outcomes.{act_outcome, admitted, denied, life_of_party, out}
 use Rattle.ibos_model.specs.Runs.{Follows}
+use Rattle.ibos_model.specs.Stored.{objects_of, requests_of}
 use Rattle.ibos_model.specs.Screen.{cell_of}
 use Rattle.ibos_model.specs.Tabs.{Life, Unborn, Alive, Gone, Tabs, life_of, tabs}
 use Rattle.ibos_net.specs.NetStanding.{AreRegisters, IsWithLife, NetMakes, NetState, NetStands, is_net, net_outcome}
 use Rattle.ibos_kernel.specs.Tables.{Parts, let_in}
 use Rattle.ibos_kernel.specs.Standing.{Agrees, NetStandsFor, PartsStand, TabsStand, entry, life_at, remote_of}
 use Rattle.ibos_kernel.specs.Halves.{GoOn, HalvesStand}
-use Rattle.ibos_kernel.proofs.LogsGrow.{sent_stays, written_fits, written_grows}
+use Rattle.ibos_kernel.proofs.LogsGrow.{sent_grows, written_fits, written_grows}
 use Rattle.ibos_kernel.proofs.Outcomes.{let_in_by}
 
 -- ---- the pages' half
 
 -- an act that changes no view of the pages' half
 stays : (J : Journal) (t : Parts) (e : Entry) → PartsStand J t → Follows t.hosts J e → tabs t.hosts (e ∷ J) ≡ tabs t.hosts J → focus_of (e ∷ J) ≡ focus_of J
-    → ((o : List ℕ) → sets_of t.hosts (e ∷ J) o ≡ sets_of t.hosts J o) → ((q : Instance) (r c : ℕ) → cell_of (e ∷ J) q r c ≡ cell_of J q r c) → PartsStand (e ∷ J) t
-stays J t e stands follows same_tabs same_focus same_sets same_cells = record {
+    → ((o : List ℕ) → sets_of t.hosts (e ∷ J) o ≡ sets_of t.hosts J o) → ((q : Instance) (r c : ℕ) → cell_of (e ∷ J) q r c ≡ cell_of J q r c)
+    → ((o : List ℕ) → objects_of t.hosts (e ∷ J) o ≡ objects_of t.hosts J o) → ((q : Instance) → requests_of (e ∷ J) q ≡ requests_of J q) → PartsStand (e ∷ J) t
+stays J t e stands follows same_tabs same_focus same_sets same_cells same_objects same_requests = record {
   run = (follows, stands.run);
   tabs = let P : Tabs → Type 0 = λ T. TabsStand T t.tabs in subst P (sym same_tabs) stands.tabs;
   active = ap (λ (f : Focus). f.tab) same_focus ∙ stands.active;
   jars = λ o. rw (same_sets o) (stands.jars o);
+  objects = λ o. stands.objects o ∙ sym (same_objects o);
+  requests = λ q. rw (same_requests q) (stands.requests q);
   displays = record {
     spot = ap (λ (f : Focus). f.at_entry_line) same_focus ∙ stands.displays.spot;
     entry_line = ap (λ (f : Focus). f.entry_line) same_focus ∙ stands.displays.entry_line;
@@ -56,15 +60,20 @@ stays J t e stands follows same_tabs same_focus same_sets same_cells = record {
 
 pub net_keeps : (J : Journal) (t : Parts) (act : Act) (outcome : Outcome) (log : List LogEntry) → is_net act ≡ true → PartsStand J t → outcome ≡ out t.hosts J act
     → PartsStand (entry act outcome log ∷ J) t
-unfolding tabs focus_of sets_of cell_of
-net_keeps J t (Bind who proto) outcome log net stands is = stays J t _ stands (record { outcome = is; written = written_fits outcome log }) refl refl (λ o. refl) (λ q r c. refl)
-net_keeps J t (Unbind who flow) outcome log net stands is = stays J t _ stands (record { outcome = is; written = written_fits outcome log }) refl refl (λ o. refl) (λ q r c. refl)
-net_keeps J t (Done who) outcome log net stands is = stays J t _ stands (record { outcome = is; written = written_fits outcome log }) refl refl (λ o. refl) (λ q r c. refl)
-net_keeps J t (RegRead offset) outcome log net stands is = stays J t _ stands (record { outcome = is; written = written_fits outcome log }) refl refl (λ o. refl) (λ q r c. refl)
-net_keeps J t (RegWrite offset value) outcome log net stands is = stays J t _ stands (record { outcome = is; written = written_fits outcome log }) refl refl (λ o. refl) (λ q r c. refl)
-net_keeps J t (RxPost slot handle) outcome log net stands is = stays J t _ stands (record { outcome = is; written = written_fits outcome log }) refl refl (λ o. refl) (λ q r c. refl)
-net_keeps J t RxBell outcome log net stands is = stays J t _ stands (record { outcome = is; written = written_fits outcome log }) refl refl (λ o. refl) (λ q r c. refl)
-net_keeps J t (WireIn frame) outcome log net stands is = stays J t _ stands (record { outcome = is; written = written_fits outcome log }) refl refl (λ o. refl) (λ q r c. refl)
+unfolding tabs focus_of sets_of cell_of objects_of requests_of
+net_keeps J t (Bind who proto) outcome log net stands is = stays J t _ stands (record { outcome = is; written = written_fits outcome log }) refl refl (λ o. refl) (λ q r c. refl) (λ o. refl) (λ q. refl)
+net_keeps J t (Unbind who flow) outcome log net stands is = stays J t _ stands (record { outcome = is; written = written_fits outcome log }) refl refl (λ o. refl) (λ q r c. refl) (λ o. refl) (λ q. refl)
+net_keeps J t (Done who) outcome log net stands is = stays J t _ stands (record { outcome = is; written = written_fits outcome log }) refl refl (λ o. refl) (λ q r c. refl) (λ o. refl) (λ q. refl)
+net_keeps J t (RegRead offset) outcome log net stands is = stays J t _ stands (record { outcome = is; written = written_fits outcome log }) refl refl (λ o. refl) (λ q r c. refl) (λ o. refl) (λ q. refl)
+net_keeps J t (RegWrite offset value) outcome log net stands is = stays J t _ stands (record { outcome = is; written = written_fits outcome log }) refl refl (λ o. refl) (λ q r c. refl) (λ o. refl) (λ q. refl)
+net_keeps J t (RxPost slot handle) outcome log net stands is = stays J t _ stands (record { outcome = is; written = written_fits outcome log }) refl refl (λ o. refl) (λ q r c. refl) (λ o. refl) (λ q. refl)
+net_keeps J t RxBell outcome log net stands is = stays J t _ stands (record { outcome = is; written = written_fits outcome log }) refl refl (λ o. refl) (λ q r c. refl) (λ o. refl) (λ q. refl)
+net_keeps J t (WireIn frame) outcome log net stands is = stays J t _ stands (record { outcome = is; written = written_fits outcome log }) refl refl (λ o. refl) (λ q r c. refl) (λ o. refl) (λ q. refl)
+net_keeps J t (Fill who buffer place bytes) outcome log net stands is = stays J t _ stands (record { outcome = is; written = written_fits outcome log }) refl refl (λ o. refl) (λ q r c. refl) (λ o. refl) (λ q. refl)
+net_keeps J t (Submit who buffer len) outcome log net stands is = stays J t _ stands (record { outcome = is; written = written_fits outcome log }) refl refl (λ o. refl) (λ q r c. refl) (λ o. refl) (λ q. refl)
+net_keeps J t (TxPost slot send) outcome log net stands is = stays J t _ stands (record { outcome = is; written = written_fits outcome log }) refl refl (λ o. refl) (λ q r c. refl) (λ o. refl) (λ q. refl)
+net_keeps J t TxBell outcome log net stands is = stays J t _ stands (record { outcome = is; written = written_fits outcome log }) refl refl (λ o. refl) (λ q r c. refl) (λ o. refl) (λ q. refl)
+net_keeps J t WireOut outcome log net stands is = stays J t _ stands (record { outcome = is; written = written_fits outcome log }) refl refl (λ o. refl) (λ q r c. refl) (λ o. refl) (λ q. refl)
 net_keeps J t other outcome log net stands is = absurd (cc net)
 
 -- ---- who may act
@@ -92,6 +101,8 @@ pub with_life_if : (J : Journal) (t : Parts) (act : Act) → PartsStand J t → 
 with_life_if J t (Bind who proto) stands free = stands.tabs.life who ∙ alive_if t.tabs who free
 with_life_if J t (Unbind who flow) stands free = stands.tabs.life who ∙ alive_if t.tabs who free
 with_life_if J t (Done who) stands free = stands.tabs.life who ∙ alive_if t.tabs who free
+with_life_if J t (Fill who buffer place bytes) stands free = stands.tabs.life who ∙ alive_if t.tabs who free
+with_life_if J t (Submit who buffer len) stands free = stands.tabs.life who ∙ alive_if t.tabs who free
 with_life_if J t other stands free = tt
 
 -- ---- the outcome
@@ -105,6 +116,11 @@ net_act H J (RegWrite offset value) net = refl
 net_act H J (RxPost slot handle) net = refl
 net_act H J RxBell net = refl
 net_act H J (WireIn frame) net = refl
+net_act H J (Fill who buffer place bytes) net = refl
+net_act H J (Submit who buffer len) net = refl
+net_act H J (TxPost slot send) net = refl
+net_act H J TxBell net = refl
+net_act H J WireOut net = refl
 net_act H J other net = absurd (cc net)
 
 admitted_as : (J : Journal) (t : Parts) (act : Act) (rule : Option Rule) → PartsStand J t → admission_of t.tabs act ≡ rule → out t.hosts J act ≡ let_in rule (act_outcome t.hosts J act)
@@ -128,14 +144,19 @@ net_after J H (RegWrite offset value) outcome log net is stands = stands
 net_after J H (RxPost slot handle) outcome log net is stands = stands
 net_after J H RxBell outcome log net is stands = stands
 net_after J H (WireIn frame) outcome log net is stands = stands
+net_after J H (Fill who buffer place bytes) outcome log net is stands = stands
+net_after J H (Submit who buffer len) outcome log net is stands = stands
+net_after J H (TxPost slot send) outcome log net is stands = stands
+net_after J H TxBell outcome log net is stands = stands
+net_after J H WireOut outcome log net is stands = stands
 net_after J H other outcome log net is stands = absurd (cc is)
 
 -- an act that was made
-pub made_goes : (J : Journal) (t : Parts) (net net' : NetState) (act : Act) (outcome : Outcome) (f f' : Registers) (l l' : List LogEntry) → is_net act ≡ true → admission_of t.tabs act ≡ None
+pub made_goes : AreSentInTurn → (J : Journal) (t : Parts) (net net' : NetState) (act : Act) (outcome : Outcome) (f f' : Registers) (l l' : List LogEntry) → is_net act ≡ true → admission_of t.tabs act ≡ None
     → HalvesStand J t net → Agrees t.hosts J f l
     → NetMakes t.hosts.local (life_of t.hosts J) (remote_of t.hosts J) (network J) act outcome net' f' l l' → GoOn J t act outcome t net' f' l'
 unfolding network
-made_goes J t net net' act outcome f f' l l' is free stand agrees makes =
+made_goes law J t net net' act outcome f f' l l' is free stand agrees makes =
     let told : outcome ≡ out t.hosts J act = makes.outcome ∙ sym (net_out J t act stand.pages_stand is free) in
     record {
       outcome_is = told;
@@ -143,8 +164,8 @@ made_goes J t net net' act outcome f f' l l' is free stand agrees makes =
       net_stands = net_after J t.hosts act outcome l' net' is makes.stands;
       agrees = record {
         registers = makes.registers;
-        written = written_grows J act outcome l l' agrees.written makes.log;
-        sent = sent_stays outcome (frame_of act) (got_for outcome l') l l' agrees.sent makes.log;
+        written = written_grows J act outcome (next_frame (network J)) l l' agrees.written makes.log;
+        sent = sent_grows t.hosts J act outcome (got_for outcome l') l l' law (record { outcome = told; written = written_fits outcome l' }, stand.pages_stand.run) agrees.sent makes.log;
       };
     }
 
@@ -157,17 +178,21 @@ denied_goes law J t net act outcome rule f l is breaks denied_is stand agrees =
     let same_network : network (entry act outcome l ∷ J) ≡ network J = ap (λ (v : Views). v.network) same in
     let P : Network → Type 0 = λ n. NetStands (life_of t.hosts J) (remote_of t.hosts J) n net in
     let Q : Network → Type 0 = λ n. AreRegisters t.hosts.local n f in
-    let quiet : l ≡ log_after outcome (frame_of act) (got_for outcome l) [] l = rw denied_is refl in
+    let quiet : l ≡ log_after outcome (frame_of act) (got_for outcome l) (next_frame (network J)) l = rw denied_is refl in
     record {
       outcome_is = told;
       pages_stand = net_keeps J t act outcome l is stand.pages_stand told;
       net_stands = net_after J t.hosts act outcome l net is (subst P (sym same_network) stand.net_stands);
       agrees = record {
         registers = subst Q (sym same_network) agrees.registers;
-        written = written_grows J act outcome l l agrees.written quiet;
-        sent = agrees.sent;
+        written = written_grows J act outcome (next_frame (network J)) l l agrees.written quiet;
+        sent = agrees.sent ∙ ap sent_frames (sym same_network);
       };
     }
+
+-- what is denied leaves the log
+pub denied_log : (outcome : Outcome) (rule : Rule) (frame w b : List ℕ) (l : List LogEntry) → outcome ≡ denied rule → l ≡ log_after outcome frame w b l
+denied_log outcome rule frame w b l is = rw is refl
 
 -- ---- as the code says it
 
@@ -194,25 +219,25 @@ made_at J t net net' act outcome f f' l l' local same free stand agrees made =
     let P : Local → Type 0 = λ x. Made x act outcome net net' f f' l l' in
     subst P same made (life_of t.hosts J) (remote_of t.hosts J) (network J) stand.net_stands agrees.registers (with_life_if J t act stand.pages_stand free)
 
-pub serve_goes : (J : Journal) (t : Parts) (net net' : NetState) (act : Act) (outcome : Outcome) (f f' : Registers) (l l' : List LogEntry) (local : Local) → local ≡ t.hosts.local → is_net act ≡ true → admission_of t.tabs act ≡ None
+pub serve_goes : AreSentInTurn → (J : Journal) (t : Parts) (net net' : NetState) (act : Act) (outcome : Outcome) (f f' : Registers) (l l' : List LogEntry) (local : Local) → local ≡ t.hosts.local → is_net act ≡ true → admission_of t.tabs act ≡ None
     → HalvesStand J t net → Agrees t.hosts J f l → Made local act outcome net net' f f' l l' → GoOn J t act outcome t net' f' l'
-serve_goes J t net net' act outcome f f' l l' local same is free stand agrees made =
-    made_goes J t net net' act outcome f f' l l' is free stand agrees (made_at J t net net' act outcome f f' l l' local same free stand agrees made)
+serve_goes law J t net net' act outcome f f' l l' local same is free stand agrees made =
+    made_goes law J t net net' act outcome f f' l l' is free stand agrees (made_at J t net net' act outcome f f' l l' local same free stand agrees made)
 
 pub serve_log : (J : Journal) (t : Parts) (net net' : NetState) (act : Act) (outcome : Outcome) (f f' : Registers) (l l' : List LogEntry) (local : Local) → local ≡ t.hosts.local → admission_of t.tabs act ≡ None
-    → HalvesStand J t net → Agrees t.hosts J f l → Made local act outcome net net' f f' l l' → l' ≡ log_after outcome (frame_of act) (got_for outcome l') [] l
+    → HalvesStand J t net → Agrees t.hosts J f l → Made local act outcome net net' f f' l l' → l' ≡ log_after outcome (frame_of act) (got_for outcome l') (next_frame (network J)) l
 serve_log J t net net' act outcome f f' l l' local same free stand agrees made = (made_at J t net net' act outcome f f' l l' local same free stand agrees made).log
 
 -- what is lost where it runs out of memory
 abbrev pub Lost : Local → Act → NetState → Registers → List LogEntry → List LogEntry → Type 0
 Lost local act net f l l' = (life : Instance → Life) (remote : Instance → Endpoint) (n : Network) → NetStands life remote n net
-    → AreRegisters local n f → IsWithLife life act → Loses (net_outcome local life remote n act) act l l'
+    → AreRegisters local n f → IsWithLife life act → Loses (net_outcome local life remote n act) act (next_frame n) l l'
 
 pub serve_loses : (J : Journal) (t : Parts) (net : NetState) (act : Act) (f : Registers) (l l' : List LogEntry) (local : Local) → local ≡ t.hosts.local → is_net act ≡ true → admission_of t.tabs act ≡ None
-    → HalvesStand J t net → Agrees t.hosts J f l → Lost local act net f l l' → Loses (out t.hosts J act) act l l'
+    → HalvesStand J t net → Agrees t.hosts J f l → Lost local act net f l l' → Loses (out t.hosts J act) act (next_frame (network J)) l l'
 serve_loses J t net act f l l' local same is free stand agrees lost =
     let P : Local → Type 0 = λ x. Lost x act net f l l' in
-    let Q : Outcome → Type 0 = λ o. Loses o act l l' in
+    let Q : Outcome → Type 0 = λ o. Loses o act (next_frame (network J)) l l' in
     subst Q (sym (net_out J t act stand.pages_stand is free)) (subst P same lost (life_of t.hosts J) (remote_of t.hosts J) (network J) stand.net_stands agrees.registers (with_life_if J t act stand.pages_stand free))
 
 pub on_err : {T E : Type 0} (r : Result T E) (P : Type 0) → P → OnErr r P

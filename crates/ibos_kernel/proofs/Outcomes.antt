@@ -8,7 +8,7 @@ use Rattle.ibos_kinds.specs.declared.names.Instance.{Instance}
 use Rattle.ibos_kinds.specs.declared.rule.Rule.{Rule}
 use Rattle.ibos_kinds.specs.declared.rule.Rule.TheVariants.{U1, U2, U3, U10, P1, P2}
 use Rattle.ibos_kinds.specs.declared.act.Act.{Act}
-use Rattle.ibos_kinds.specs.declared.act.Act.TheVariants.{Start, Switch, Close, Press, Click, Look, Go, Draw, CookieSet, CookieGet}
+use Rattle.ibos_kinds.specs.declared.act.Act.TheVariants.{Start, Switch, Close, Press, Click, Look, Go, Draw, CookieSet, CookieGet, Put, Ask, StoreAnswer, StoreNone, StoreLose}
 use Rattle.ibos_kinds.specs.declared.names.Key.{Key}
 use Rattle.ibos_kinds.specs.declared.names.Key.TheVariants.{Byte, Enter, Back}
 use Rattle.ibos_kinds.specs.Keyboard.{key_breaks}
@@ -20,16 +20,22 @@ use Rattle.ibos_origin.specs.Hosts.{HostTable}
 use Rattle.ibos_origin.specs.Pages.{Page, allowed}
 use Rattle.ibos_page.specs.Tabs.{TabTable, seat_at, live_at, active_in, next_at, go_in, is_live_in, admission, admission_in}
 use Rattle.ibos_cookie.specs.Jars.{jar_of}
+use Rattle.ibos_kinds.specs.Labels.{lose_answer, none_answer}
+use Rattle.ibos_kinds.specs.Objects.{KeyObject, newest_in}
+use Rattle.ibos_store.specs.Stores.{objects_of as objects_kept}
+use Rattle.ibos_model.specs.Stored.{objects_of, requests_of}
+use Rattle.ibos_kernel.specs.Storage.{own_requests}
 use Rattle.ibos_model.specs.Journal.{Journal}
 use Rattle.ibos_model.specs.Tabs.{Tabs, Unborn, Alive, Gone, tabs, next_in, origin_of, life_in, active_of}
 use Rattle.ibos_model.specs.Jars.{sets_of}
 use Rattle.ibos_frame.specs.ScreenStates.{seen_at}
 use Rattle.ibos_model.specs.Screen.{screen, seen_row}
-use Rattle.ibos_model.specs.Outcomes.{accepted, denied, admitted, answer, open_outcome, start_outcome, switch_outcome, close_outcome, page_key_outcome, enter_outcome, click_outcome, look_outcome, draw_outcome, go_outcome, set_outcome, get_outcome, out}
-use Rattle.ibos_kernel.specs.Tables.{Parts, origin_at, started_by, gone_by, go_at, enter_at, is_entry, let_in, get_at, outcome_by}
+use Rattle.ibos_model.specs.Outcomes.{accepted, denied, admitted, answer, open_outcome, start_outcome, switch_outcome, close_outcome, page_key_outcome, enter_outcome, click_outcome, look_outcome, draw_outcome, go_outcome, set_outcome, get_outcome, ask_outcome, none_outcome, object_outcome, put_outcome, unless_denied, out}
+use Rattle.ibos_kernel.specs.Tables.{Parts, is_live, origin_at, started_by, gone_by, go_at, enter_at, is_entry, let_in, get_at, outcome_by}
 use Rattle.ibos_kernel.specs.Standing.{TabsStand, PartsStand}
 use Rattle.ibos_net.specs.NetStanding.{is_net}
-use Rattle.ibos_kernel.proofs.TabsStanding.{tab_of}
+use Rattle.ibos_kernel.proofs.TabsStanding.{page_there, tab_of}
+use Rattle.ibos_kernel.proofs.StoredKeys.{key_stands, label_stands, own_asked}
 use Rattle.ibos_kernel.proofs.ScreenSeen.{seen_same, looks_same}
 
 -- ---- the outcome by the tables is that by the journal
@@ -71,6 +77,16 @@ let_in_same t who row other same = by_rule (admission t who) refl
     by_rule : (rule : Option Rule) → admission t who ≡ rule → let_in rule row ≡ let_in rule other
     by_rule None is = same (lives_if t who is)
     by_rule (Some rule) is = refl
+
+-- who lives is admitted, and seen to live
+free_if : (t : TabTable) (who : Instance) → is_live t who ≡ true → admission t who ≡ None
+free_if t who live = rw live refl
+
+live_if : (T : Tabs) (t : TabTable) (who : Instance) → TabsStand T t → live_at t who.tab ≡ Some who → is_live t who ≡ true
+live_if T t who shows lives =
+    let there = page_there who.tab ((seat_at t who.tab).count - 1) (seat_at t who.tab).page who lives in
+    let newest : who.ord + 1 ≡ (seat_at t who.tab).count = shows.newest who.tab who lives in
+    grind (arith, nat_tests, there, newest)
 
 -- ---- the active instance
 
@@ -198,4 +214,18 @@ outcome_stands J t (CookieGet side who) stands page =
     let_in_same t.tabs who (get_at t.jars (origin_at t.tabs who) who) (get_outcome who (sets_of t.hosts J (origin_of t.hosts J who)))
     (λ lives. rw (stands.tabs.origin who lives) (ap (λ (cookies : List Cookie). accepted (Cookies who (jar_text cookies) ∷ [])) (stands.jars (origin_at t.tabs who))))
     ∙ sym (let_in_by (tabs t.hosts J) t.tabs who (get_outcome who (sets_of t.hosts J (origin_of t.hosts J who))) stands.tabs)
+outcome_stands J t (Put who key bytes) stands page =
+    let row = put_outcome who (origin_of t.hosts J who) key bytes (objects_of t.hosts J (origin_of t.hosts J who)) in
+    let_in_same t.tabs who (put_outcome who (origin_at t.tabs who) key bytes (objects_kept t.store (origin_at t.tabs who))) row
+    (λ lives. rw (stands.tabs.origin who lives) (ap (put_outcome who (origin_at t.tabs who) key bytes) (stands.objects (origin_at t.tabs who))))
+    ∙ sym (let_in_by (tabs t.hosts J) t.tabs who row stands.tabs)
+outcome_stands J t (Ask who key) stands page =
+    let row = ask_outcome who (origin_of t.hosts J who) key (requests_of J who) in
+    let_in_same t.tabs who (ask_outcome who (origin_at t.tabs who) key (own_requests t.store who)) row
+    (λ lives. rw (stands.tabs.origin who lives) (ap (ask_outcome who (origin_at t.tabs who) key) (own_asked J t who stands (live_if (tabs t.hosts J) t.tabs who stands.tabs lives))))
+    ∙ sym (let_in_by (tabs t.hosts J) t.tabs who row stands.tabs)
+outcome_stands J t (StoreAnswer who request origin key version) stands page =
+    ap (object_outcome who request version) (label_stands J t who request origin key version stands (λ live. stands.tabs.origin who (lives_if t.tabs who (free_if t.tabs who live))))
+outcome_stands J t (StoreNone who request) stands page = ap (λ found. none_outcome who request (none_answer found)) (key_stands J t who request stands)
+outcome_stands J t (StoreLose origin key version) stands page = ap (λ (objects : List KeyObject). unless_denied (lose_answer version (newest_in objects key))) (stands.objects origin)
 outcome_stands J t other stands page = absurd (cc page)

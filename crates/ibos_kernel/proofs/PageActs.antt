@@ -1,9 +1,9 @@
 -- After an act of the pages' half the net half stands for the journal with its entry.
-use Rattle.std.proofs.Common.{◌≡◌, ◌≢◌, ℕ, ◌+◌, ◌<◌, ◌≤◌, true, false, List, [], ◌∷◌, Option, Some, None, Ok, IfSome, refl, sym, ◌∙◌, ap, subst, arith}
+use Rattle.std.proofs.Common.{◌≡◌, ℕ, ◌+◌, ◌<◌, ◌≤◌, true, false, List, ◌∷◌, Option, Some, None, Ok, IfSome, refl, sym, ◌∙◌, ap, subst, arith}
 use Rattle.std.specs.Prelude.{if◌then◌else◌}
 use Rattle.std.proofs.lemmas.Bool.Decides.{nat_tests}
 use Rattle.ibos_kinds.specs.declared.act.Act.{Act}
-use Rattle.ibos_kinds.specs.declared.act.Act.TheVariants.{Start, Switch, Close, Press, Click, Look, Go, Draw, CookieSet, CookieGet}
+use Rattle.ibos_kinds.specs.declared.act.Act.TheVariants.{Start, Switch, Close, Press, Click, Look, Go, Draw, CookieSet, CookieGet, Put, Ask, StoreAnswer, StoreNone, StoreLose}
 use Rattle.ibos_kinds.specs.declared.names.Endpoint.{Endpoint}
 use Rattle.ibos_kinds.specs.declared.names.Instance.{Instance}
 use Rattle.ibos_kinds.specs.declared.outcome.Outcome.{Outcome}
@@ -18,12 +18,12 @@ use Rattle.ibos_page.specs.Seats.{Seat}
 use Rattle.ibos_page.specs.Tabs.{TabTable, live_at, live_in, seat_at}
 use Rattle.ibos_model.specs.Focus.{focus_of}
 use Rattle.ibos_model.specs.Journal.{Journal, frame_of, is_ok, same}
-use Rattle.ibos_model.specs.Laws.{AreSetsPut, AreUnbornBare}
+use Rattle.ibos_model.specs.Laws.{AreSetsPut, AreUnbornBare, AreUnbornQuiet}
 use Rattle.ibos_model.specs.Logs.{got_for, log_after, log_by}
-use Rattle.ibos_model.specs.Network.{Network, network}
+use Rattle.ibos_model.specs.Network.{Network, network, next_frame, sent_frames}
 use Rattle.ibos_model.specs.Runs.{IsRun}
-use Rattle.ibos_model.specs.Tabs.{Alive, Gone, Life, Tabs, changes, life_in, life_of, tabs}
-use Rattle.ibos_net.specs.NetStanding.{AreRegisters, NetStands, NetState, areas_of, is_net, with_life, with_remote}
+use Rattle.ibos_model.specs.Tabs.{Unborn, Alive, Gone, Life, Tabs, changes, life_in, life_of, tabs}
+use Rattle.ibos_net.specs.NetStanding.{AreRegisters, IsBare, NetStands, NetState, areas_of, is_net, with_life, with_remote}
 use Rattle.ibos_kernel.specs.Tables.{Parts, Serves, started, tabs_after}
 use Rattle.ibos_kernel.specs.Standing.{Agrees, IsCounted, NetStandsFor, PartsStand, entry, remote_of}
 use Rattle.ibos_kernel.specs.Halves.{GoOn, HalvesStand, IsNew, begun, ended_in, endpoint_with, opened_in, remotes_with, with_begun, with_ended}
@@ -54,6 +54,11 @@ page_network J (Go who url) outcome log page = refl
 page_network J (Draw who row col height width pixels) outcome log page = refl
 page_network J (CookieSet side who text) outcome log page = refl
 page_network J (CookieGet side who) outcome log page = refl
+page_network J (Put who key bytes) outcome log page = refl
+page_network J (Ask who key) outcome log page = refl
+page_network J (StoreAnswer who request origin key version) outcome log page = refl
+page_network J (StoreNone who request) outcome log page = refl
+page_network J (StoreLose origin key version) outcome log page = refl
 page_network J other outcome log page = absurd (cc page)
 
 turn_served : (J : Journal) (old new : Parts) (act : Act) (outcome : Outcome) → is_net act ≡ false → PartsStand J old → Fits act → Serves old act outcome new
@@ -87,11 +92,12 @@ lives_if H T U old new table ended opened is turn = rw is (if_some (Starting T o
 pub room_if : (H : HostTable) (T U : Tabs) (old new : TabTable) (ended opened : Option Instance) (areas : ℕ) → areas ≡ 1 + started old.seats → Turned H T U old new ended opened → IfSome opened (λ who. areas < 2049)
 room_if H T U old new ended opened areas is turn = if_some (Starting T old new ended) (λ who. areas < 2049) opened (λ who starts. omega (arith, is, starts.room)) turn.begins
 
-pub new_if : AreUnbornBare → (H : HostTable) (J K : Journal) (old new : TabTable) (ended opened : Option Instance) → IsRun H J → Turned H (tabs H J) (tabs H K) old new ended opened
+pub new_if : AreUnbornBare → AreUnbornQuiet → (H : HostTable) (J K : Journal) (old new : TabTable) (ended opened : Option Instance) → IsRun H J → Turned H (tabs H J) (tabs H K) old new ended opened
     → IfSome opened (IsNew (with_ended ended (life_of H J)) (network J))
-new_if law H J K old new ended opened run turn = if_some (Starting (tabs H J) old new ended) (IsNew (with_ended ended (life_of H J)) (network J)) opened (λ who starts.
+new_if law quiet H J K old new ended opened run turn = if_some (Starting (tabs H J) old new ended) (IsNew (with_ended ended (life_of H J)) (network J)) opened (λ who starts.
     let bare = law H J who run starts.unborn in
-    record { dead = starts.dead; flows = bare.0; unread = bare.1 }) turn.begins
+    let still = quiet H J who run starts.unborn in
+    record { unborn = starts.yet; bare = record { flows = bare.0; unread = bare.1; buffers = still.2; home = still.1 } }) turn.begins
 
 -- ---- one begins
 
@@ -104,7 +110,7 @@ endpoint_is tab seat who place lives told = by_page seat.page seat.count lives t
 
 pub begun_stands : (opened : Option Instance) (who : Instance) → opened ≡ Some who → (t : TabTable) (place : Endpoint) (life : Instance → Life) (remotes : Instance → Endpoint) (n : Network) (net : NetState)
     → IfSome opened (λ q. live_at t q.tab ≡ Some q) → IfSome (seat_at t who.tab).page (λ page. (place.addr ≡ page.addr) × (place.port ≡ page.port)) → IfSome opened (IsNew life n)
-    → (life who ≢ Alive → n.flows who ≡ [] → n.unread who ≡ [] → NetStands (with_life who Alive life) (with_remote who place remotes) n net)
+    → (life who ≡ Unborn → IsBare n who → NetStands (with_life who Alive life) (with_remote who place remotes) n net)
     → NetStands (with_begun opened life) (remotes_with t opened remotes) n net
 begun_stands opened who is t place life remotes n net lives told fresh stands =
     let P : Option Instance → Type 0 = λ o. IfSome o (λ q. live_at t q.tab ≡ Some q) → IfSome o (IsNew life n) → NetStands (with_begun o life) (remotes_with t o remotes) n net in
@@ -113,7 +119,7 @@ begun_stands opened who is t place life remotes n net lives told fresh stands =
     here : live_at t who.tab ≡ Some who → IsNew life n who → NetStands (with_begun (Some who) life) (remotes_with t (Some who) remotes) n net
     here live new =
         let Q : Endpoint → Type 0 = λ e. NetStands (with_life who Alive life) (with_remote who e remotes) n net in
-        subst Q (sym (endpoint_is who.tab (seat_at t who.tab) who place live told)) (stands new.dead new.flows new.unread)
+        subst Q (sym (endpoint_is who.tab (seat_at t who.tab) who place live told)) (stands new.unborn new.bare)
 
 pub ended_stands : (ended : Option Instance) (who : Instance) → ended ≡ Some who → (life : Instance → Life) (remotes : Instance → Endpoint) (n : Network) (net : NetState)
     → NetStands (with_life who Gone life) remotes n net → NetStands (with_ended ended life) remotes n net
@@ -135,10 +141,10 @@ none_turned H T U old new ended (Some who) turn still kept =
 
 -- ---- the net half after it
 
--- of lives and other ends the relation asks only which instances live, and where those are
+-- of each instance the relation asks only what its life is, and where it is if it lives
 abbrev pub MayChange : Type 0
-MayChange = (life life' : Instance → Life) (remote remote' : Instance → Endpoint) (n : Network) (t : NetState) → ((p : Instance) → life p ≡ Alive → (life' p ≡ Alive) × (remote' p ≡ remote p))
-    → ((p : Instance) → life' p ≡ Alive → life p ≡ Alive) → NetStands life remote n t → NetStands life' remote' n t
+MayChange = (life life' : Instance → Life) (remote remote' : Instance → Endpoint) (n : Network) (t : NetState) → ((p : Instance) → life' p ≡ life p)
+    → ((p : Instance) → life p ≡ Alive → remote' p ≡ remote p) → NetStands life remote n t → NetStands life' remote' n t
 
 pub net_goes : MayChange → (J : Journal) (H : HostTable) (act : Act) (outcome : Outcome) (log : List LogEntry) (old new table : TabTable) (ended opened : Option Instance) (net : NetState) → is_net act ≡ false → table ≡ new
     → Turned H (tabs H J) (tabs H (entry act outcome log ∷ J)) old new ended opened
@@ -149,7 +155,7 @@ net_goes law J H act outcome log old new table ended opened net page is turn sta
     let Q : Network → Type 0 = λ n. NetStands (life_of H (entry act outcome log ∷ J)) (remote_of H (entry act outcome log ∷ J)) n net in
     subst Q (sym (page_network J act outcome log page))
     (law life (life_of H (entry act outcome log ∷ J)) (remotes_with new opened (remote_of H J)) (remote_of H (entry act outcome log ∷ J)) (network J) net
-    (λ p alive. (turn.life p ∙ alive, turn.remote p)) (λ p alive. sym (turn.life p) ∙ alive) (subst P is stands))
+    (λ p. turn.life p) (λ p alive. turn.remote p) (subst P is stands))
 
 pub counted_after : (H : HostTable) (T U : Tabs) (old new : TabTable) (ended opened : Option Instance) (net net' : NetState) → IsCounted old net → Turned H T U old new ended opened
     → areas_of net' ≡ areas_of net + begun opened → IsCounted new net'
@@ -161,23 +167,23 @@ counted_after H T U old new ended opened net net' counted turn areas = record {
 -- ---- both halves after it
 
 -- the log stays
-pub page_log : (J : Journal) (old new : Parts) (act : Act) (outcome : Outcome) (frame w : List ℕ) (log : List LogEntry) → is_net act ≡ false → PartsStand J old → Fits act → Serves old act outcome new
-    → log ≡ log_after outcome frame w [] log
-page_log J old new act outcome frame w log page stands fits serves =
+pub page_log : (J : Journal) (old new : Parts) (act : Act) (outcome : Outcome) (frame w b : List ℕ) (log : List LogEntry) → is_net act ≡ false → PartsStand J old → Fits act → Serves old act outcome new
+    → log ≡ log_after outcome frame w b log
+page_log J old new act outcome frame w b log page stands fits serves =
     let kind = turn_kind old.hosts old.tabs new.tabs outcome.items _ (turn_served J old new act outcome page stands fits serves) in
-    ap (λ k. log_by k frame w [] log) (sym kind)
+    ap (λ k. log_by k frame w b log) (sym kind)
 
-pub page_goes : AreSetsPut → (J : Journal) (old new : Parts) (net net' : NetState) (act : Act) (outcome : Outcome) (f : Registers) (log : List LogEntry) → is_net act ≡ false → Fits act
+pub page_goes : AreSetsPut → AreUnbornQuiet → (J : Journal) (old new : Parts) (net net' : NetState) (act : Act) (outcome : Outcome) (f : Registers) (log : List LogEntry) → is_net act ≡ false → Fits act
     → HalvesStand J old net → Agrees old.hosts J f log → Serves old act outcome new → NetStandsFor old.hosts (entry act outcome log ∷ J) net' → GoOn J old act outcome new net' f log
-page_goes law J old new net net' act outcome f log page fits stand agrees serves net_stands =
+page_goes law quiet J old new net net' act outcome f log page fits stand agrees serves net_stands =
     let P : Network → Type 0 = λ n. AreRegisters old.hosts.local n f in
     record {
       outcome_is = step_told J old new act outcome page stand.pages_stand serves;
-      pages_stand = step_holds law J old new act outcome log page stand.pages_stand fits serves;
+      pages_stand = step_holds law quiet J old new act outcome log page stand.pages_stand fits serves;
       net_stands = net_stands;
       agrees = record {
         registers = subst P (sym (page_network J act outcome log page)) agrees.registers;
-        written = written_grows J act outcome log log agrees.written (page_log J old new act outcome (frame_of act) (got_for outcome log) log page stand.pages_stand fits serves);
-        sent = agrees.sent;
+        written = written_grows J act outcome (next_frame (network J)) log log agrees.written (page_log J old new act outcome (frame_of act) (got_for outcome log) (next_frame (network J)) log page stand.pages_stand fits serves);
+        sent = agrees.sent ∙ ap sent_frames (sym (page_network J act outcome log page));
       };
     }

@@ -58,9 +58,9 @@ record GrowsSeat (old new : Seat) : Type 0 where
   count : old.count ≤ new.count
   fresh : (q : Instance) → is_live_in q new ≡ true → is_live_in q old ≡ false → old.count ≤ q.ord
 
-record Grows (old new : TabTable) : Type 0 where
-  count : (tab : ℕ) → (seat_at old tab).count ≤ (seat_at new tab).count
-  fresh : (q : Instance) → is_live new q ≡ true → is_live old q ≡ false → (seat_at old q.tab).count ≤ q.ord
+pub record Grows (old new : TabTable) : Type 0 where
+  pub count : (tab : ℕ) → (seat_at old tab).count ≤ (seat_at new tab).count
+  pub fresh : (q : Instance) → is_live new q ≡ true → is_live old q ≡ false → (seat_at old q.tab).count ≤ q.ord
 
 stays : (t : TabTable) → Grows t t
 stays t = record { count = λ tab. omega arith; fresh = λ q now before. absurd (both (is_live t q) now before) }
@@ -117,7 +117,7 @@ entered_grows : (t : TabTable) (active : Option Instance) (r : Result Page Rule)
 entered_grows t None r room lives = stays t
 entered_grows t (Some who) r room lives = gone_grows t who r room (lives who refl)
 
-tabs_grow : (t : Parts) (act : Act) (outcome : Outcome) → length t.tabs.seats ≡ 64 → Fits act → outcome ≡ outcome_seen t act → Grows t.tabs (tabs_after t (is_ok outcome.head) act)
+pub tabs_grow : (t : Parts) (act : Act) (outcome : Outcome) → length t.tabs.seats ≡ 64 → Fits act → outcome ≡ outcome_seen t act → Grows t.tabs (tabs_after t (is_ok outcome.head) act)
 tabs_grow t (Start tab url) outcome room fits is = if_grows t.tabs _ _ (λ ok. started_grows t.tabs tab (allowed t.hosts url) room fits)
 tabs_grow t (Switch tab) outcome room fits is = if_grows t.tabs _ _ (λ ok. record { count = (stays t.tabs).count; fresh = (stays t.tabs).fresh })
 tabs_grow t (Close tab) outcome room fits is = if_grows t.tabs _ _ (λ ok.

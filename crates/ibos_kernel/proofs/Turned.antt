@@ -1,5 +1,5 @@
 -- Lives, endpoints and counts after an act of the pages' half.
-use Rattle.std.proofs.Common.{◌≡◌, ◌≢◌, ℕ, ◌+◌, ◌-◌, ◌<◌, ◌≤◌, Bool, true, false, List, length, length-set, Option, Some, None, Ok, IfSome, refl, sym, ◌∙◌, ap, subst, arith}
+use Rattle.std.proofs.Common.{◌≡◌, ℕ, ◌+◌, ◌-◌, ◌<◌, ◌≤◌, Bool, true, false, List, length, length-set, Option, Some, None, Ok, IfSome, refl, sym, ◌∙◌, ap, subst, arith}
 use Rattle.std.specs.Prelude.{slice_set, unwrap_or, ◌==◌, if◌then◌else◌}
 use Rattle.std.proofs.lemmas.Bool.Decides.{nat_tests}
 use Rattle.ibos_kinds.specs.declared.names.Instance.{Instance}
@@ -24,7 +24,7 @@ use Rattle.ibos_kernel.proofs.Turns.{Turn, Stays, Shows, Starts, Closes, Leaves}
 -- of an instance that starts
 pub record Starting (T : Tabs) (old new : TabTable) (ended : Option Instance) (who : Instance) : Type 0 where
   pub unborn : life_in T who ≡ Unborn
-  pub dead : with_ended ended (life_in T) who ≢ Alive
+  pub yet : with_ended ended (life_in T) who ≡ Unborn
   pub named : IsNamed who
   pub lives : live_at new who.tab ≡ Some who
   pub room : started old.seats < 2048
@@ -162,7 +162,7 @@ turned H T old new items cs law shows few (Starts tab text page within free low 
   ends = tt;
   begins = record {
     unborn = unborn_of T old tab shows;
-    dead = λ alive. no_life (sym (unborn_of T old tab shows) ∙ alive);
+    yet = unborn_of T old tab shows;
     named = (within, low);
     lives = rw seat (opened_lives tab page (seat_at old tab));
     room = started_room old tab shows.room within low few;
@@ -173,9 +173,6 @@ turned H T old new items cs law shows few (Starts tab text page within free low 
   where
     seat : seat_at new tab ≡ opened page (seat_at old tab)
     seat = seat_here old new tab (opened page (seat_at old tab)) shows.room within seats
-
-    no_life : Unborn ≡ Alive → ⊥
-    no_life h = cc
 turned H T old new items cs law shows few (Closes who lives seats ends none one) = rw (one, ends, none) (record {
   life = λ p. ended_life T who p (alive_of T old who shows lives);
   remote = λ p. refl;
@@ -193,7 +190,7 @@ turned H T old new items cs law shows few (Leaves who text page lives last allow
   ends = alive_of T old who shows lives;
   begins = record {
     unborn = unborn_of T old who.tab shows;
-    dead = rw apart (λ alive. no_life (sym (unborn_of T old who.tab shows) ∙ alive));
+    yet = rw apart (unborn_of T old who.tab shows);
     named = (within, low);
     lives = rw seat (opened_lives who.tab page (seat_at old who.tab));
     room = started_room old who.tab shows.room within low few;
@@ -222,9 +219,6 @@ turned H T old new items cs law shows few (Leaves who text page lives last allow
 
     fresh : at who true T.is_gone next ≡ false
     fresh = rw apart (shows.fresh next (omega arith))
-
-    no_life : Unborn ≡ Alive → ⊥
-    no_life h = cc
 
     by_next : (p : Instance) (it : Bool) → (if it then Alive else life_with (T.page p) (at who true T.is_gone p)) ≡ (if it then Alive else at who Gone (life_in T) p)
     by_next p true = refl

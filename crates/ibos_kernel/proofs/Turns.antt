@@ -6,7 +6,7 @@ use Rattle.ibos_kinds.specs.declared.names.Instance.{Instance}
 use Rattle.ibos_kinds.specs.declared.names.Key.{Key}
 use Rattle.ibos_kinds.specs.declared.names.Key.TheVariants.{Byte, Enter, Back}
 use Rattle.ibos_kinds.specs.declared.act.Act.{Act}
-use Rattle.ibos_kinds.specs.declared.act.Act.TheVariants.{Start, Switch, Close, Press, Click, Look, Go, Draw, CookieSet, CookieGet}
+use Rattle.ibos_kinds.specs.declared.act.Act.TheVariants.{Start, Switch, Close, Press, Click, Look, Go, Draw, CookieSet, CookieGet, Put, Ask, StoreAnswer, StoreNone, StoreLose}
 use Rattle.ibos_kinds.specs.declared.outcome.Item.{Item}
 use Rattle.ibos_kinds.specs.declared.outcome.Item.TheVariants.{Opened, Moved as ItemMoved, Ended}
 use Rattle.ibos_kinds.specs.declared.outcome.Outcome.{Outcome}
@@ -15,17 +15,20 @@ use Rattle.ibos_kinds.specs.declared.rule.Rule.TheVariants.{U3, U12}
 use Rattle.ibos_kinds.specs.Keyboard.{key_breaks}
 use Rattle.ibos_kinds.specs.Limits.{Fits}
 use Rattle.ibos_kinds.specs.Cookies.{set_breaks}
+use Rattle.ibos_kinds.specs.Labels.{ask_answer, label_answer, lose_answer, none_answer, put_answer}
 use Rattle.ibos_kinds.specs.Screens.{chrome_rows, draw_breaks, is_on_screen}
 use Rattle.ibos_origin.specs.Hosts.{HostTable}
 use Rattle.ibos_origin.specs.Pages.{Page, allowed}
 use Rattle.ibos_page.specs.Seats.{Seat}
 use Rattle.ibos_page.specs.Tabs.{TabTable, seat_at, live_at, active_in, next_at, admission, opened, moved, closed, with_seat, without}
 use Rattle.ibos_cookie.specs.Jars.{jar_of}
+use Rattle.ibos_store.specs.Stores.{StoreState, key_of, object_at, objects_of}
 use Rattle.ibos_model.specs.Focus.{focus_of}
 use Rattle.ibos_model.specs.Journal.{Journal, Nothing, is_ok, kind_in}
 use Rattle.ibos_model.specs.Tabs.{Change, Opens, Moves, Ends, Tabs, changes, entering, if_ok, leave, end, next_in, opening, tabs}
-use Rattle.ibos_model.specs.Outcomes.{accepted, answer, click_outcome, close_outcome, content_click_outcome, denied, go_outcome, open_outcome, page_key_outcome, start_outcome, switch_outcome}
+use Rattle.ibos_model.specs.Outcomes.{accepted, answer, click_outcome, close_outcome, content_click_outcome, denied, go_outcome, none_outcome, object_outcome, open_outcome, page_key_outcome, request_outcome, start_outcome, switch_outcome, unless_denied, version_outcome}
 use Rattle.ibos_net.specs.NetStanding.{is_net}
+use Rattle.ibos_kernel.specs.Storage.{own_requests, storage_outcome}
 use Rattle.ibos_kernel.specs.Tables.{Parts, is_entry, let_in, origin_at, tabs_after, with_entered, with_gone, with_started}
 use Rattle.ibos_kernel.specs.Standing.{TabsStand, PartsStand}
 use Rattle.ibos_kernel.specs.Halves.{ended_in, opened_in}
@@ -59,19 +62,19 @@ stay H t o quiet = Stays refl quiet refl
 
 -- ---- quiet outcomes
 
-quiet_answer : (rule : Option Rule) → IsQuiet (answer rule).items
+pub quiet_answer : (rule : Option Rule) → IsQuiet (answer rule).items
 quiet_answer None = (refl, refl, refl)
 quiet_answer (Some rule) = (refl, refl, refl)
 
-quiet_let_in : (rule : Option Rule) (row : Outcome) → IsQuiet row.items → IsQuiet (let_in rule row).items
+pub quiet_let_in : (rule : Option Rule) (row : Outcome) → IsQuiet row.items → IsQuiet (let_in rule row).items
 quiet_let_in None row quiet = quiet
 quiet_let_in (Some rule) row quiet = (refl, refl, refl)
 
-quiet_key : (active : Option Instance) (key : Key) → IsQuiet (page_key_outcome active key).items
+pub quiet_key : (active : Option Instance) (key : Key) → IsQuiet (page_key_outcome active key).items
 quiet_key None key = (refl, refl, refl)
 quiet_key (Some who) key = (refl, refl, refl)
 
-quiet_if : (test : Bool) (row other : Outcome) → IsQuiet row.items → IsQuiet other.items → IsQuiet (if test then row else other).items
+pub quiet_if : (test : Bool) (row other : Outcome) → IsQuiet row.items → IsQuiet other.items → IsQuiet (if test then row else other).items
 quiet_if true row other quiet quiet_other = quiet
 quiet_if false row other quiet quiet_other = quiet_other
 
@@ -79,9 +82,38 @@ quiet_content : (active : Option Instance) (r c : ℕ) → IsQuiet (content_clic
 quiet_content None r c = (refl, refl, refl)
 quiet_content (Some who) r c = (refl, refl, refl)
 
-quiet_click : (active : Option Instance) (r c : ℕ) → IsQuiet (click_outcome active r c).items
+pub quiet_click : (active : Option Instance) (r c : ℕ) → IsQuiet (click_outcome active r c).items
 quiet_click active r c = quiet_if (not (is_on_screen r c)) (denied U12) _ (refl, refl, refl)
     (quiet_if (nat_lt r chrome_rows) (accepted []) (content_click_outcome active (r - chrome_rows) c) (refl, refl, refl) (quiet_content active (r - chrome_rows) c))
+
+quiet_version : (who : Instance) (origin key bytes : List ℕ) (r : Result ℕ Rule) → IsQuiet (version_outcome who origin key bytes r).items
+quiet_version who origin key bytes (Ok version) = (refl, refl, refl)
+quiet_version who origin key bytes (Err rule) = (refl, refl, refl)
+
+quiet_request : (who : Instance) (origin key : List ℕ) (r : Result ℕ Rule) → IsQuiet (request_outcome who origin key r).items
+quiet_request who origin key (Ok request) = (refl, refl, refl)
+quiet_request who origin key (Err rule) = (refl, refl, refl)
+
+quiet_object : (who : Instance) (request version : ℕ) (r : Result (List ℕ) Rule) → IsQuiet (object_outcome who request version r).items
+quiet_object who request version (Ok bytes) = (refl, refl, refl)
+quiet_object who request version (Err rule) = (refl, refl, refl)
+
+quiet_none : (who : Instance) (request : ℕ) (r : Result Unit Rule) → IsQuiet (none_outcome who request r).items
+quiet_none who request (Ok x) = (refl, refl, refl)
+quiet_none who request (Err rule) = (refl, refl, refl)
+
+quiet_lost : (r : Result Unit Rule) → IsQuiet (unless_denied r).items
+quiet_lost (Ok x) = (refl, refl, refl)
+quiet_lost (Err rule) = (refl, refl, refl)
+
+pub quiet_storage : (origins : Instance → List ℕ) (store : StoreState) (act : Act) → IsQuiet (storage_outcome origins store act).items
+quiet_storage origins store (Put who key bytes) = quiet_version who (origins who) key bytes (put_answer key bytes (objects_of store (origins who)))
+quiet_storage origins store (Ask who key) = quiet_request who (origins who) key (ask_answer key (own_requests store who))
+quiet_storage origins store (StoreAnswer who request origin key version) =
+    quiet_object who request version (label_answer (key_of store who request) (origins who) origin key version (object_at store origin key))
+quiet_storage origins store (StoreNone who request) = quiet_none who request (none_answer (key_of store who request))
+quiet_storage origins store (StoreLose origin key version) = quiet_lost (lose_answer version (object_at store origin key))
+quiet_storage origins store other = (refl, refl, refl)
 
 -- ---- starts, closes and goes
 
@@ -131,7 +163,7 @@ admitted_turn : (H : HostTable) (T : Tabs) (t : TabTable) (who : Instance) (text
 admitted_turn H T t who text shows None free = go_turn H T t who text shows (lives_if t who free) (allowed H text) refl
 admitted_turn H T t who text shows (Some rule) free = stay H t (denied rule) (refl, refl, refl)
 
-and_true : (b : Bool) → (b && true) ≡ b
+pub and_true : (b : Bool) → (b && true) ≡ b
 and_true true = refl
 and_true false = refl
 
@@ -166,6 +198,11 @@ turn_seen J t (Draw who r c height width pixels) page stands fits = Stays refl (
 turn_seen J t (Go who url) page stands fits = admitted_turn t.hosts (tabs t.hosts J) t.tabs who url stands.tabs (admission t.tabs who) refl
 turn_seen J t (CookieSet side who text) page stands fits = Stays refl (quiet_let_in (admission t.tabs who) _ (quiet_answer (set_breaks text (jar_of t.jars (origin_at t.tabs who))))) refl
 turn_seen J t (CookieGet side who) page stands fits = Stays refl (quiet_let_in (admission t.tabs who) _ (refl, refl, refl)) refl
+turn_seen J t (Put who key bytes) page stands fits = Stays refl (quiet_let_in (admission t.tabs who) _ (quiet_storage (origin_at t.tabs) t.store (Put who key bytes))) refl
+turn_seen J t (Ask who key) page stands fits = Stays refl (quiet_let_in (admission t.tabs who) _ (quiet_storage (origin_at t.tabs) t.store (Ask who key))) refl
+turn_seen J t (StoreAnswer who request origin key version) page stands fits = Stays refl (quiet_storage (origin_at t.tabs) t.store (StoreAnswer who request origin key version)) refl
+turn_seen J t (StoreNone who request) page stands fits = Stays refl (quiet_storage (origin_at t.tabs) t.store (StoreNone who request)) refl
+turn_seen J t (StoreLose origin key version) page stands fits = Stays refl (quiet_storage (origin_at t.tabs) t.store (StoreLose origin key version)) refl
 turn_seen J t other page stands fits = absurd (cc page)
 
 -- ---- no frame

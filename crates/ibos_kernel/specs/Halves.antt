@@ -1,5 +1,5 @@
 -- The two halves of the kernel and the device, and what an act makes of them.
-use Rattle.std.specs.Prelude.{ℕ, ◌≡◌, ◌≢◌, List, [], ◌∷◌, Option, Some, None}
+use Rattle.std.specs.Prelude.{ℕ, ◌≡◌, List, ◌∷◌, Option, Some, None}
 use Rattle.ibos_kinds.specs.declared.names.Endpoint.{Endpoint}
 use Rattle.ibos_kinds.specs.declared.names.Instance.{Instance}
 use Rattle.ibos_kinds.specs.declared.act.Act.{Act}
@@ -13,8 +13,8 @@ use Rattle.ibos_page.specs.Tabs.{TabTable, seat_at}
 use Rattle.ibos_model.specs.Journal.{Journal}
 use Rattle.ibos_model.specs.Network.{Network, no_endpoint}
 use Rattle.ibos_model.specs.Outcomes.{out}
-use Rattle.ibos_model.specs.Tabs.{Life, Alive, Gone}
-use Rattle.ibos_net.specs.NetStanding.{NetState, with_life, with_remote}
+use Rattle.ibos_model.specs.Tabs.{Life, Unborn, Alive, Gone}
+use Rattle.ibos_net.specs.NetStanding.{IsBare, NetState, with_life, with_remote}
 use Rattle.ibos_kernel.specs.Tables.{Parts}
 use Rattle.ibos_kernel.specs.Standing.{Agrees, NetStandsFor, PartsStand, entry}
 
@@ -60,11 +60,10 @@ remotes_with t None remotes = remotes
 remotes_with t (Some who) remotes =
     with_remote who (endpoint_with (seat_at t who.tab).page) remotes
 
--- an instance that starts has bound nothing, and has no frame
+-- an instance that starts never did, and has nothing yet
 pub record IsNew (life : Instance → Life) (n : Network) (who : Instance) : Type 0 where
-  pub dead : life who ≢ Alive
-  pub flows : n.flows who ≡ []
-  pub unread : n.unread who ≡ []
+  pub unborn : life who ≡ Unborn
+  pub bare : IsBare n who
 
 -- how many started
 abbrev pub begun : Option Instance → ℕ

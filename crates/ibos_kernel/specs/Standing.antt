@@ -1,5 +1,6 @@
 -- Tables that stand for a journal.
-use Rattle.std.specs.Prelude.{ℕ, ◌≡◌, ◌+◌, ◌<◌, ◌≤◌, List, [], true, false, length, Some, nat_lt}
+use Rattle.std.specs.Prelude.{ℕ, ◌≡◌, ◌+◌, ◌<◌, ◌≤◌, List, true, false, length, Some, None}
+use Rattle.std.specs.Prelude.{nat_lt}
 use Rattle.std.specs.Prelude.{if◌then◌else◌}
 use Rattle.ibos_kinds.specs.declared.names.Instance.{Instance}
 use Rattle.ibos_kinds.specs.declared.names.Endpoint.{Endpoint}
@@ -11,9 +12,10 @@ use Rattle.ibos_kinds.specs.declared.outcome.Outcome.{Outcome}
 use Rattle.ibos_page.specs.Seats.{Seat}
 use Rattle.ibos_page.specs.Tabs.{TabTable, seat_at, live_at, is_live_in}
 use Rattle.ibos_cookie.specs.Jars.{jar_of}
+use Rattle.ibos_store.specs.Stores.{objects_of as objects_kept, requests_of as requests_kept}
 use Rattle.ibos_model.specs.Journal.{Journal, Entry, heard}
 use Rattle.ibos_model.specs.Logs.{got_for, sent_in, written_in}
-use Rattle.ibos_model.specs.Network.{endpoint_for, network}
+use Rattle.ibos_model.specs.Network.{endpoint_for, network, sent_frames}
 use Rattle.ibos_model.specs.Tabs.{Tabs, Life, Unborn, Alive, Gone, tabs, life_in, life_of}
 use Rattle.ibos_model.specs.Tabs.{origin_in, origin_of}
 use Rattle.ibos_kinds.specs.Screens.{space}
@@ -22,6 +24,7 @@ use Rattle.ibos_model.specs.Focus.{active_tab, focus_of}
 use Rattle.ibos_model.specs.Screen.{cell_of}
 use Rattle.ibos_model.specs.Jars.{jar, sets_of}
 use Rattle.ibos_model.specs.Runs.{IsRun}
+use Rattle.ibos_model.specs.Stored.{objects_of, requests_of}
 use Rattle.ibos_net.specs.NetStanding.{AreRegisters, NetState, NetStands, areas_of, posts_of}
 use Rattle.ibos_kernel.specs.Tables.{Tables, Parts, IsTied, is_entry, is_live, origin_at, parts_of}
 use Rattle.ibos_kernel.specs.Tables.{started}
@@ -66,6 +69,10 @@ pub record PartsStand (J : Journal) (t : Parts) : Type 0 where
   pub tabs : TabsStand (tabs t.hosts J) t.tabs
   pub active : active_tab J ≡ t.tabs.active
   pub jars : (o : List ℕ) → jar_of t.jars o ≡ jar (sets_of t.hosts J o)
+  pub objects : (o : List ℕ) → objects_kept t.store o ≡ objects_of t.hosts J o
+  -- the requests of an instance are kept while it lives
+  pub requests : (q : Instance) → requests_kept t.store q
+      ≡ (if is_live t.tabs q then Some (requests_of J q) else None)
   pub displays : Displays J t
 
 -- where the origin of an instance is
@@ -83,12 +90,12 @@ pub record Stands (J : Journal) (t : Tables) : Type 0 where
   pub acts : length J ≡ t.acts
 
 -- The device agrees with a journal: its registers are the journal's, and its log has what was
--- written for the frames heard. There is no frame to send yet.
+-- written for the frames heard, and the frames that went out.
 pub record Agrees (H : HostTable) (J : Journal) (f : Registers) (log : List LogEntry)
     : Type 0 where
   pub registers : AreRegisters H.local (network J) f
   pub written : written_in log ≡ heard J
-  pub sent : sent_in log ≡ []
+  pub sent : sent_in log ≡ sent_frames (network J)
 
 -- the entry of an act, where the log is then this
 abbrev pub entry : Act → Outcome → List LogEntry → Entry

@@ -10,6 +10,7 @@ use Rattle.ibos_kinds.specs.declared.act.Act.{Act}
 use Rattle.ibos_kinds.specs.declared.act.Act.TheVariants.{Start, Switch, Close, Press, Click, Look}
 use Rattle.ibos_kinds.specs.declared.act.Act.TheVariants.{Go, Draw, CookieSet, CookieGet}
 use Rattle.ibos_kinds.specs.declared.act.Act.TheVariants.{Unbind, Done, RegWrite, RxPost}
+use Rattle.ibos_kinds.specs.declared.act.Act.TheVariants.{Fill, TxPost, StoreLose}
 use Rattle.ibos_kinds.specs.declared.outcome.Outcome.{Outcome}
 use Rattle.ibos_kinds.specs.declared.outcome.Item.TheVariants.{Opened, Moved as ItemMoved, Ended}
 use Rattle.ibos_kinds.specs.declared.outcome.Item.TheVariants.{Cookies}
@@ -33,17 +34,24 @@ use Rattle.ibos_focus.specs.Focused.{Focused}
 use Rattle.ibos_focus.specs.declared.focus.Spot.{Spot}
 use Rattle.ibos_focus.specs.declared.focus.Spot.TheVariants.{Entry, Content}
 use Rattle.ibos_cookie.specs.Jars.{OriginJar, jar_of}
+use Rattle.ibos_kinds.specs.Objects.{KeyObject}
+use Rattle.ibos_kinds.specs.Requests.{Requests}
+use Rattle.ibos_store.specs.Stores.{StoreState, objects_of, requests_of}
 use Rattle.ibos_model.specs.Journal.{is_ok}
 use Rattle.ibos_model.specs.Focus.{at_entry_line_by, entry_line_by}
 use Rattle.ibos_model.specs.Screen.{cell_by, state_text, bar_text, entry_line_text, seen_row}
 use Rattle.ibos_model.specs.Outcomes.{accepted, denied, answer, open_outcome, close_outcome}
 use Rattle.ibos_model.specs.Outcomes.{page_key_outcome, click_outcome, look_outcome, draw_outcome}
+use Rattle.ibos_model.specs.Stored.{is_about}
+use Rattle.ibos_kernel.specs.Storage as storage
+use Rattle.ibos_kernel.specs.Storage.{asked_by, kept_by, storage_outcome}
 
 -- what acts read and change
 pub record Parts : Type 0 where
   pub hosts : HostTable
   pub tabs : TabTable
   pub jars : List OriginJar
+  pub store : StoreState
   pub screen : ScreenState
   pub focus : Focused
 
@@ -51,6 +59,7 @@ pub record Tables : Type 0 where
   pub hosts : HostTable
   pub tabs : TabTable
   pub jars : List OriginJar
+  pub store : StoreState
   pub screen : ScreenState
   pub focus : Focused
   pub net : NetState
@@ -64,6 +73,7 @@ parts_of t = record {
   hosts = t.hosts;
   tabs = t.tabs;
   jars = t.jars;
+  store = t.store;
   screen = t.screen;
   focus = t.focus;
 }
@@ -184,7 +194,7 @@ admitted_outcome t (Go who url) = go_at t.tabs who (allowed t.hosts url)
 admitted_outcome t (CookieSet side who text) = answer
     (set_breaks text (jar_of t.jars (origin_at t.tabs who)))
 admitted_outcome t (CookieGet side who) = get_at t.jars (origin_at t.tabs who) who
-admitted_outcome t other = accepted []
+admitted_outcome t other = storage_outcome (origin_at t.tabs) t.store other
 
 -- the same, where it may act or not
 abbrev pub outcome_by : Parts → Act → Outcome
@@ -229,6 +239,15 @@ jar_after t ok (CookieSet side who text) o = if ok && bytes_eq (origin_at t.tabs
     then put (cookie_in text) (jar_of t.jars o) else jar_of t.jars o
 jar_after t ok other o = jar_of t.jars o
 
+-- the objects of an origin after an act, if it is accepted
+abbrev pub objects_after : Parts → Bool → Act → List ℕ → List KeyObject
+objects_after t ok act o = storage.objects_after (origin_at t.tabs) t.store ok act o
+
+-- the requests of an instance after an act, if it is accepted, where it lives then or not
+abbrev pub requests_after : Parts → Bool → Act → Bool → Instance → Option Requests
+requests_after t ok act lives q =
+    kept_by (is_live t.tabs q) lives (asked_by (is_about q act) ok act (requests_of t.store q))
+
 -- where keys go and what is typed after an act, if it is accepted
 abbrev pub focus_by : Option ℕ → Focused → Bool → Act → Focused
 focus_by active f ok act = record {
@@ -244,16 +263,6 @@ abbrev pub cell_after : Parts → Bool → Act → Instance → ℕ → ℕ → 
 cell_after t ok act q r c = cell_by q r c ok act (if is_live t.tabs q then content_at t.screen q r c
     else space)
 
--- the act is one after which the chrome or the instance shown may be others
-abbrev pub composes : Act → Bool
-composes (Start tab url) = true
-composes (Switch tab) = true
-composes (Close tab) = true
-composes (Press key) = true
-composes (Click row col) = true
-composes (Go who url) = true
-composes other = false
-
 -- the act is one that is made without taking memory
 abbrev pub takes_none : Act → Bool
 takes_none (Switch tab) = true
@@ -262,34 +271,37 @@ takes_none (Unbind who flow) = true
 takes_none (Done who) = true
 takes_none (RegWrite offset value) = true
 takes_none (RxPost slot handle) = true
+takes_none (Fill who buffer place bytes) = true
+takes_none (TxPost slot send) = true
+takes_none (StoreLose origin key version) = true
 takes_none other = false
 
--- what an act leaves of the screen and the tabs that it does not change
-pub record Leaves (old new : Parts) : Type 0 where
-  pub tabs : new.tabs ≡ old.tabs
-  pub focus : new.focus ≡ old.focus
-  pub shown : new.screen.shown ≡ old.screen.shown
-  pub chrome : new.screen.chrome ≡ old.screen.chrome
-
--- an act's outcome and the parts after it, before the screen is composed anew
+-- an act's outcome and the parts after it, before requests follow their instances and the chrome is
+-- written again
 pub record Makes (old : Parts) (act : Act) (outcome : Outcome) (new : Parts) : Type 0 where
   pub outcome_is : outcome ≡ outcome_by old act
   pub hosts_are : new.hosts ≡ old.hosts
   pub tabs_are : new.tabs ≡ tabs_after old (is_ok outcome.head) act
   pub jars_are : (o : List ℕ) → jar_of new.jars o ≡ jar_after old (is_ok outcome.head) act o
+  pub objects_are : (o : List ℕ) → objects_of new.store o
+      ≡ objects_after old (is_ok outcome.head) act o
   pub focus_is : new.focus ≡ focus_after old (is_ok outcome.head) act
   pub lives : IsOpenWhereLive new.tabs new.screen
   pub cells_are : (q : Instance) (r c : ℕ) → r < 22 → c < 80 → is_live new.tabs q ≡ true
       → content_at new.screen q r c ≡ cell_after old (is_ok outcome.head) act q r c
-  pub leaves : composes act ≡ false → Leaves old new
+  pub chrome_is : new.screen.chrome ≡ old.screen.chrome
   pub denied : is_ok outcome.head ≡ false → new ≡ old
 
--- the same, with the screen composed
+-- the same, with both
 pub record Serves (old : Parts) (act : Act) (outcome : Outcome) (new : Parts) : Type 0 where
   pub outcome_is : outcome ≡ outcome_by old act
   pub hosts_are : new.hosts ≡ old.hosts
   pub tabs_are : new.tabs ≡ tabs_after old (is_ok outcome.head) act
   pub jars_are : (o : List ℕ) → jar_of new.jars o ≡ jar_after old (is_ok outcome.head) act o
+  pub objects_are : (o : List ℕ) → objects_of new.store o
+      ≡ objects_after old (is_ok outcome.head) act o
+  pub requests_are : (q : Instance) → requests_of new.store q
+      ≡ requests_after old (is_ok outcome.head) act (is_live new.tabs q) q
   pub focus_is : new.focus ≡ focus_after old (is_ok outcome.head) act
   pub cells_are : (q : Instance) (r c : ℕ) → r < 22 → c < 80 → is_live new.tabs q ≡ true
       → content_at new.screen q r c ≡ cell_after old (is_ok outcome.head) act q r c

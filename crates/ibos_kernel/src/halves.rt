@@ -8,20 +8,23 @@ ghost use Rattle.ibos_nic.specs.declared.log.LogEntry.{LogEntry};
 ghost use Rattle.ibos_page.specs.Tabs.{live_at};
 ghost use Rattle.ibos_model.specs.Journal.{Journal, frame_of, is_ok};
 ghost use Rattle.ibos_model.specs.Logs.{Loses, got_for, log_after};
-ghost use Rattle.ibos_model.specs.Network.{Network};
+ghost use Rattle.ibos_model.specs.Network.{Network, network, next_frame};
 ghost use Rattle.ibos_model.specs.Outcomes.{out as outcome_of};
 ghost use Rattle.ibos_model.specs.Tabs.{Life, Alive};
 ghost use Rattle.ibos_net.specs.NetStanding as net_spec;
 ghost use Rattle.ibos_net.specs.NetStanding.{NetStands, areas_of, posts_of};
+ghost use Rattle.ibos_kernel.specs.Storage.{IsFew};
 ghost use Rattle.ibos_kernel.specs.Tables.{Serves, takes_none};
 ghost use Rattle.ibos_kernel.specs.Standing.{Agrees, IsCounted, NetStandsFor, entry};
 ghost use Rattle.ibos_kernel.specs.Halves.{GoOn, HalvesStand, IsNew, begun, remotes_with};
 ghost use Rattle.ibos_kernel.specs.Halves.{with_begun, with_ended};
-ghost use Rattle.ibos_kernel.specs.Halves as spec;
 
+use crate::instances::{ended_in, opened_in};
 use crate::parts::Parts;
-use ibos_kinds::{Act, Head, Instance, Item, Memory, Outcome};
-use ibos_model::{denials_change_nothing, sets_are_put, unborn_have_nothing};
+use ibos_kinds::{Act, Head, Instance, Memory, Outcome};
+use ibos_model::{
+    denials_change_nothing, frames_are_sent_in_turn, sets_are_put, unborn_have_nothing,
+};
 use ibos_net::{Net, lives_may_change};
 use ibos_nic::Nic;
 use ibos_origin::endpoints_follow_origins;
@@ -40,6 +43,7 @@ pub fn serve<N: Nic>(
 ) -> Result<(), Memory>
     requires fits { Fits act.now }
     requires counted { IsCounted pages.old.tabs net.old }
+    requires few { IsFew pages.old.store }
     requires posts { posts_of net.old < 2 ^ 31 }
     requires together { (J : Journal) × HalvesStand J pages.old net.old
         × Agrees pages.old.hosts J (N.regs nic.old) (N.log nic.old) }
@@ -52,16 +56,20 @@ pub fn serve<N: Nic>(
     ensures denied_net { OnOk result (is_ok out.new.head ≡ false → net.new ≡ net.old) }
     ensures counted { OnOk result (IsCounted pages.new.tabs net.new) }
     ensures posts { OnOk result (posts_of net.new ≤ posts_of net.old + 1) }
-    ensures log { OnOk result (N.log nic.new ≡ log_after out.new (frame_of act.now) (got_for
-        out.new (N.log nic.new)) [] (N.log nic.old)) }
+    ensures log { OnOk result ((J : Journal) → HalvesStand J pages.old net.old
+        → Agrees pages.old.hosts J (N.regs nic.old) (N.log nic.old)
+        → N.log nic.new ≡ log_after out.new (frame_of act.now) (got_for out.new (N.log nic.new))
+        (next_frame (network J)) (N.log nic.old)) }
     ensures loses { OnErr result ((J : Journal) → HalvesStand J pages.old net.old
         → Agrees pages.old.hosts J (N.regs nic.old) (N.log nic.old)
-        → Loses (outcome_of pages.old.hosts J act.now) act.now (N.log nic.old) (N.log nic.new)) }
+        → Loses (outcome_of pages.old.hosts J act.now) act.now (next_frame (network J))
+        (N.log nic.old) (N.log nic.new)) }
     ensures free { takes_none act.now ≡ true → IsOk result }
     ensures hosts { pages.new.hosts ≡ pages.old.hosts }
 {
-    // Called for what its contract says.
+    // Called for what their contracts say.
     sets_are_put();
+    unborn_have_nothing();
 
     if is_net(act) {
         serve_net(pages, net, alloc, act, nic, out)?;
@@ -79,9 +87,13 @@ fn is_net(act: &Act) -> bool
         Act::Bind { .. } | Act::Unbind { .. } | Act::Done { .. } => true,
         Act::RegRead { .. } | Act::RegWrite { .. } => true,
         Act::RxPost { .. } | Act::RxBell | Act::WireIn { .. } => true,
+        Act::Fill { .. } | Act::Submit { .. } => true,
+        Act::TxPost { .. } | Act::TxBell | Act::WireOut => true,
         Act::Start { .. } | Act::Switch { .. } | Act::Close { .. } | Act::Press { .. } => false,
         Act::Click { .. } | Act::Look | Act::Go { .. } | Act::Draw { .. } => false,
         Act::CookieSet { .. } | Act::CookieGet { .. } => false,
+        Act::Put { .. } | Act::Ask { .. } | Act::StoreAnswer { .. } => false,
+        Act::StoreNone { .. } | Act::StoreLose { .. } => false,
     }
 }
 
@@ -107,15 +119,19 @@ fn serve_net<N: Nic>(
     ensures denied { OnOk result (is_ok out.new.head ≡ false → net.new ≡ net.old) }
     ensures areas { areas_of net.new ≡ areas_of net.old }
     ensures posts { OnOk result (posts_of net.new ≤ posts_of net.old + 1) }
-    ensures log { OnOk result (N.log nic.new ≡ log_after out.new (frame_of act.now) (got_for
-        out.new (N.log nic.new)) [] (N.log nic.old)) }
+    ensures log { OnOk result ((J : Journal) → HalvesStand J pages.now net.old
+        → Agrees pages.now.hosts J (N.regs nic.old) (N.log nic.old)
+        → N.log nic.new ≡ log_after out.new (frame_of act.now) (got_for out.new (N.log nic.new))
+        (next_frame (network J)) (N.log nic.old)) }
     ensures loses { OnErr result ((J : Journal) → HalvesStand J pages.now net.old
         → Agrees pages.now.hosts J (N.regs nic.old) (N.log nic.old)
-        → Loses (outcome_of pages.now.hosts J act.now) act.now (N.log nic.old) (N.log nic.new)) }
+        → Loses (outcome_of pages.now.hosts J act.now) act.now (next_frame (network J))
+        (N.log nic.old) (N.log nic.new)) }
     ensures free { net_spec.takes_none act.now ≡ true → IsOk result }
 {
-    // Called for what its contract says.
+    // Called for what their contracts say.
     denials_change_nothing();
+    frames_are_sent_in_turn();
 
     if let Err(rule) = admit(&pages.tabs, act) {
         out.head = Head::Denied(rule);
@@ -137,6 +153,7 @@ fn serve_pages(
     requires pages { net_spec.is_net act.now ≡ false }
     requires fits { Fits act.now }
     requires counted { IsCounted pages.old.tabs net.old }
+    requires few { IsFew pages.old.store }
     requires together { (J : Journal) × HalvesStand J pages.old net.old }
     requires head { out.old.head ≡ Head.Ok }
     requires items { out.old.items ≡ [] }
@@ -161,27 +178,6 @@ fn serve_pages(
     end(net, ended_in(out));
     begin(net, &pages.tabs, opened_in(out))?;
     Ok(())
-}
-
-// The instance that an act ended, by its items.
-fn ended_in(out: &Outcome) -> Option<Instance>
-    ensures { result ≡ spec.ended_in out.now.items }
-{
-    match out.items.as_slice() {
-        [Item::Ended { who }, ..] => Some(*who),
-        _ => None,
-    }
-}
-
-// The instance that an act started, by its items.
-fn opened_in(out: &Outcome) -> Option<Instance>
-    ensures { result ≡ spec.opened_in out.now.items }
-{
-    match out.items.as_slice() {
-        [Item::Opened { who, .. }, ..] => Some(*who),
-        [Item::Ended { .. }, Item::Opened { who, .. }, ..] => Some(*who),
-        _ => None,
-    }
 }
 
 fn end(net: &mut Net, ended: Option<Instance>)

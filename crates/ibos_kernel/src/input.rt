@@ -48,6 +48,7 @@ pub fn press(
     ensures focus { OnOk result (focus.new
         ≡ focus_by tabs.old.active focus.old (is_ok out.new.head) (Press key)) }
     ensures follows { OnOk result (ContentsFollow tabs.old tabs.new screen.old screen.new) }
+    ensures chrome { OnOk result (screen.new.chrome ≡ screen.old.chrome) }
     ensures denied { OnOk result (is_ok out.new.head ≡ false → screen.new ≡ screen.old) }
 {
     let active = tabs.active();
@@ -99,6 +100,7 @@ fn enter(
     ensures focus { OnOk result (focus.new ≡ (if is_ok out.new.head
         then record { entry_line = []; spot = Spot.Content } else focus.old)) }
     ensures follows { OnOk result (ContentsFollow tabs.old tabs.new screen.old screen.new) }
+    ensures chrome { OnOk result (screen.new.chrome ≡ screen.old.chrome) }
     ensures denied { OnOk result (is_ok out.new.head ≡ false → screen.new ≡ screen.old) }
 {
     let Some(who) = active else { unreachable!() };

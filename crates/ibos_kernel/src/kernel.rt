@@ -2,6 +2,7 @@
 ghost use Rattle.std.specs.Prelude.{◌≡◌, ℕ, ◌<◌, ◌+◌, ◌*◌, ◌^◌, [], ◌∷◌, true, false};
 ghost use Rattle.std.specs.Prelude.{is_ok as is_whole, length, slice_index, slice_index_or, IfOk};
 ghost use Rattle.std.specs.Prelude.{IsOk, OnErr, OnOk};
+ghost use Rattle.std.specs.List.{All};
 ghost use Rattle.ibos_kinds.specs.Limits.{Fits};
 ghost use Rattle.ibos_nic.specs.declared.reg.Reg.{Reg};
 ghost use Rattle.ibos_nic.specs.Registers.{reset};
@@ -12,16 +13,17 @@ use ibos_cookie::Jars;
 use ibos_focus::Focus;
 use ibos_frame::Screen;
 use ibos_kinds::{Act, Instance, Memory, Outcome};
-use ibos_model::{denials_change_nothing, isolation_of_each_entry, sets_are_put};
+use ibos_model::{denials_change_nothing, isolation_of_each_entry, sends_are_right, sets_are_put};
 use ibos_net::Net;
 use ibos_nic::Nic;
 use ibos_origin::Hosts;
 use ibos_page::Tabs;
+use ibos_store::Store;
 use std::alloc::Global;
 use std::marker::Model;
 
-/// The kernel of one run: the half of the pages, with its host table, tabs, jars, screen and focus,
-/// and the half that frames pass. It can't be dropped: it holds buffers.
+/// The kernel of one run: the half of the pages, with its host table, tabs, jars, stored objects,
+/// screen and focus, and the half that frames pass. It can't be dropped: it holds buffers.
 pub struct Kernel {
     parts: Parts,
     net: Net,
@@ -40,6 +42,7 @@ impl Model for Kernel {
       hosts = k.parts.hosts;
       tabs = k.parts.tabs;
       jars = k.parts.jars;
+      store = k.parts.store;
       screen = k.parts.screen;
       focus = k.parts.focus;
       net = k.net;
@@ -51,6 +54,7 @@ impl Model for Kernel {
       hosts = k.parts.hosts;
       tabs = k.parts.tabs;
       jars = k.parts.jars;
+      store = k.parts.store;
       screen = k.parts.screen;
       focus = k.parts.focus;
       net = k.net;
@@ -62,9 +66,9 @@ impl Model for Kernel {
 impl Kernel {
     ghost use Rattle.ibos_model.specs.Journal.{Journal, frame_of, is_ok};
     ghost use Rattle.ibos_model.specs.Outcomes.{out as outcome_of};
-    ghost use Rattle.ibos_model.specs.Laws.{IsCarried, views};
-    ghost use Rattle.ibos_model.specs.Logs.{Loses, got_for, log_after};
-    ghost use Rattle.ibos_model.specs.Network.{network};
+    ghost use Rattle.ibos_model.specs.Laws.{IsCarried, IsOfASend, views};
+    ghost use Rattle.ibos_model.specs.Logs.{Loses, got_for, log_after, sent_in};
+    ghost use Rattle.ibos_model.specs.Network.{network, next_frame};
     ghost use Rattle.ibos_model.specs.Screen.{screen};
     ghost use Rattle.ibos_model.specs.Tabs.{Alive};
     ghost use Rattle.ibos_kernel.specs.Tables.{takes_none};
@@ -89,6 +93,7 @@ impl Kernel {
             hosts,
             tabs,
             jars: Jars::new(alloc),
+            store: Store::new(alloc),
             screen,
             focus: Focus::new(),
         };
@@ -158,18 +163,28 @@ impl Kernel {
             → views self.old.hosts (entry act.now out.new (N.log nic.new) ∷ J)
             ≡ views self.old.hosts J) }
 
-        // The log's entries stay. Where the act's frame is heard, one more has that frame.
-        ensures log { OnOk result (N.log nic.new ≡ log_after out.new (frame_of act.now) (got_for
-            out.new (N.log nic.new)) [] (N.log nic.old)) }
+        // The log's entries stay. Where the act's frame is heard, one more has that frame, and where
+        // the device sends, one more has the frame that is sent next.
+        ensures log { OnOk result ((J : Journal) → Stands J self.old
+            → Agrees self.old.hosts J (N.regs nic.old) (N.log nic.old)
+            → N.log nic.new ≡ log_after out.new (frame_of act.now) (got_for out.new
+            (N.log nic.new)) (next_frame (network J)) (N.log nic.old)) }
+
+        // What the device has sent is sent rightly: each frame is that of a send which was accepted
+        // and breaks no rule.
+        ensures sends { OnOk result ((J : Journal) → Stands J self.old
+            → Agrees self.old.hosts J (N.regs nic.old) (N.log nic.old)
+            → All (IsOfASend self.old.hosts (entry act.now out.new (N.log nic.new) ∷ J))
+            (sent_in (N.log nic.new))) }
 
         // After want of memory the log is as it was, or has the one entry that the act brings.
         ensures loses { OnErr result ((J : Journal) → Stands J self.old
             → Agrees self.old.hosts J (N.regs nic.old) (N.log nic.old)
-            → Loses (outcome_of self.old.hosts J act.now) act.now (N.log nic.old)
-            (N.log nic.new)) }
+            → Loses (outcome_of self.old.hosts J act.now) act.now (next_frame (network J))
+            (N.log nic.old) (N.log nic.new)) }
 
         // These acts take no memory: a switch, a draw, a closed flow, a frame that is done with, a
-        // write of a register, and a posted buffer.
+        // write of a register, a posted buffer, a fill, a posted send, and the loss of an object.
         ensures free { takes_none act.now ≡ true → IsOk result }
 
         ensures hosts { self.new.hosts ≡ self.old.hosts }
@@ -179,6 +194,7 @@ impl Kernel {
         // Called for what their contracts say: the laws that this call's clauses follow from.
         isolation_of_each_entry();
         denials_change_nothing();
+        sends_are_right();
         sets_are_put();
 
         out.clear();

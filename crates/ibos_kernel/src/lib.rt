@@ -3,11 +3,14 @@
 
 mod chrome;
 mod cookies;
+mod damage;
 mod halves;
 mod input;
+mod instances;
 mod kernel;
 mod parts;
 mod screens;
+mod storage;
 mod tabs;
 
 pub use kernel::Kernel;

@@ -1,27 +1,33 @@
-// What acts of the pages' half read and change: the host table, the tabs, the jars, the screen and
-// the focus.
-ghost use Rattle.std.specs.Prelude.{◌≡◌, ◌<◌, ◌+◌, ◌*◌, ℕ, [], None, Some, true, false, length};
-ghost use Rattle.std.specs.Prelude.{slice_index, IsOk, OnOk, IfSome};
+// What acts of the pages' half read and change: the host table, the tabs, the jars, the stored
+// objects, the screen and the focus.
+ghost use Rattle.std.specs.Prelude.{◌≡◌, ◌<◌, ◌+◌, ◌*◌, ℕ, [], None, true, false, length};
+ghost use Rattle.std.specs.Prelude.{slice_index, IsOk, OnOk};
 ghost use Rattle.ibos_kinds.specs.Limits.{Fits, IsKey};
+ghost use Rattle.ibos_kinds.specs.Screens.{padded};
 ghost use Rattle.ibos_kinds.specs.declared.names.Instance.{Instance};
 ghost use Rattle.ibos_kinds.specs.declared.act.Act.TheVariants.{Start, Switch, Close, Press, Click};
 ghost use Rattle.ibos_kinds.specs.declared.act.Act.TheVariants.{Look, Go, Draw, CookieSet};
 ghost use Rattle.ibos_kinds.specs.declared.act.Act.TheVariants.{CookieGet};
-ghost use Rattle.ibos_page.specs.Tabs.{live_at, admission};
-ghost use Rattle.ibos_frame.specs.ScreenStates.{content_of, seen_at};
+ghost use Rattle.ibos_page.specs.Tabs.{admission};
+ghost use Rattle.ibos_frame.specs.ScreenStates.{chrome_at, content_of, seen_at};
 ghost use Rattle.ibos_model.specs.Journal.{is_ok};
 ghost use Rattle.ibos_net.specs.NetStanding.{is_net};
 ghost use Rattle.ibos_route.specs.Parties.{admission_of};
-ghost use Rattle.ibos_kernel.specs.Tables as spec;
-ghost use Rattle.ibos_kernel.specs.Tables.{Makes, bar_at, takes_none, IsTied, IsComposed, IsBeside};
-ghost use Rattle.ibos_kernel.specs.Tables.{IsOpenWhereLive, Serves};
+ghost use Rattle.ibos_kernel.specs.DamagedRows.{is_damaged};
+ghost use Rattle.ibos_kernel.specs.Tables.{Makes, takes_none, IsTied, IsComposed, IsBeside};
+ghost use Rattle.ibos_kernel.specs.Tables.{IsOpenWhereLive, Serves, chrome_by, is_live};
+ghost use Rattle.ibos_kernel.specs.Tables.{requests_after};
+ghost use Rattle.ibos_kernel.specs.Storage.{IsAskedWhereLive, IsFew, asked_by};
+ghost use Rattle.ibos_store.specs.Stores.{requests_of};
+ghost use Rattle.ibos_model.specs.Stored.{is_about};
 
-use crate::chrome::{Row, bar_row, entry_row, state_row};
 use crate::cookies::{get, set};
+use crate::damage::{Damage, damage_of, write_bar, write_entry, write_state};
 use crate::input::{click, is_accepted, press};
+use crate::instances::{ended_in, opened_in};
 use crate::screens::look;
+use crate::storage::{follow, make_stored};
 use crate::tabs::{close, go, start, switch};
-use arrayvec::ArrayVec;
 use ibos_cookie::Jars;
 use ibos_focus::{Focus, Spot};
 use ibos_frame::Screen;
@@ -29,6 +35,7 @@ use ibos_kinds::{Act, Bytes, Head, Instance, Key, Memory, Outcome};
 use ibos_origin::Hosts;
 use ibos_page::Tabs;
 use ibos_route::admit;
+use ibos_store::Store;
 use std::alloc::Global;
 use std::marker::Model;
 
@@ -38,6 +45,7 @@ pub struct Parts {
     pub hosts: Hosts,
     pub tabs: Tabs,
     pub jars: Jars,
+    pub store: Store,
     pub screen: Screen,
     pub focus: Focus,
 }
@@ -51,6 +59,7 @@ impl Model for Parts {
       hosts = p.hosts;
       tabs = p.tabs;
       jars = p.jars;
+      store = p.store;
       screen = p.screen;
       focus = p.focus;
     } };
@@ -62,6 +71,8 @@ impl Parts {
         requires pages { is_net act.now ≡ false }
         requires fits { Fits act.now }
         requires tied { IsTied self.old.tabs self.old.screen self.old.focus }
+        requires asked { IsAskedWhereLive self.old.tabs self.old.store }
+        requires few { IsFew self.old.store }
         requires head { out.old.head ≡ Head.Ok }
         requires items { out.old.items ≡ [] }
         ensures serves { OnOk result (Serves self.old act.now out.new self.new) }
@@ -72,9 +83,33 @@ impl Parts {
             out.head = Head::Denied(rule);
             return Ok(());
         }
+        let damage = damage_of(&self.tabs, &self.focus, act);
+        self.make_and_follow(alloc, act, out)?;
+        if is_accepted(out) {
+            self.redraw(damage);
+        }
+        Ok(())
+    }
+
+    // Makes an act that is admitted. Requests end with their instance, and one that starts has none.
+    fn make_and_follow(&mut self, alloc: Global, act: &Act, out: &mut Outcome) -> Result<(), Memory>
+        requires pages { is_net act.now ≡ false }
+        requires fits { Fits act.now }
+        requires admitted { admission_of self.old.tabs act.now ≡ None }
+        requires tied { IsTied self.old.tabs self.old.screen self.old.focus }
+        requires asked { IsAskedWhereLive self.old.tabs self.old.store }
+        requires few { IsFew self.old.store }
+        requires head { out.old.head ≡ Head.Ok }
+        requires items { out.old.items ≡ [] }
+        ensures makes { OnOk result (Makes self.old act.now out.new self.new) }
+        ensures requests { OnOk result ((q : Instance) → requests_of self.new.store q
+            ≡ requests_after self.old (is_ok out.new.head) act.now (is_live self.new.tabs q) q) }
+        ensures free { takes_none act.now ≡ true → IsOk result }
+        ensures hosts { self.new.hosts ≡ self.old.hosts }
+    {
         self.make(alloc, act, out)?;
-        if is_accepted(out) && composes(act) {
-            self.compose();
+        if is_accepted(out) {
+            follow(&mut self.store, ended_in(out), opened_in(out))?;
         }
         Ok(())
     }
@@ -84,9 +119,14 @@ impl Parts {
         requires fits { Fits act.now }
         requires admitted { admission_of self.old.tabs act.now ≡ None }
         requires tied { IsTied self.old.tabs self.old.screen self.old.focus }
+        requires asked { IsAskedWhereLive self.old.tabs self.old.store }
+        requires few { IsFew self.old.store }
         requires head { out.old.head ≡ Head.Ok }
         requires items { out.old.items ≡ [] }
         ensures makes { OnOk result (Makes self.old act.now out.new self.new) }
+        ensures requests { OnOk result ((q : Instance) → requests_of self.new.store q
+            ≡ asked_by (is_about q act.now) (is_ok out.new.head) act.now
+            (requests_of self.old.store q)) }
         ensures free { takes_none act.now ≡ true → IsOk result }
         ensures hosts { self.new.hosts ≡ self.old.hosts }
     {
@@ -122,16 +162,47 @@ impl Parts {
             Act::Bind { .. } | Act::Unbind { .. } | Act::Done { .. } => unreachable!(),
             Act::RegRead { .. } | Act::RegWrite { .. } => unreachable!(),
             Act::RxPost { .. } | Act::RxBell | Act::WireIn { .. } => unreachable!(),
+            Act::Fill { .. } | Act::Submit { .. } | Act::TxPost { .. } => unreachable!(),
+            Act::TxBell | Act::WireOut => unreachable!(),
+            Act::Put { .. } | Act::Ask { .. } | Act::StoreAnswer { .. } => {
+                make_stored(&self.tabs, &mut self.store, alloc, act, out)?;
+            }
+            Act::StoreNone { .. } | Act::StoreLose { .. } => {
+                make_stored(&self.tabs, &mut self.store, alloc, act, out)?;
+            }
         }
         Ok(())
     }
 
-    // Writes the chrome's rows, and shows the content of the active instance.
+    // Writes all rows of the chrome, and shows the content of the active instance.
     pub fn compose(&mut self)
         requires open { IsOpenWhereLive self.old.tabs self.old.screen }
         ensures hosts { self.new.hosts ≡ self.old.hosts }
         ensures tabs { self.new.tabs ≡ self.old.tabs }
         ensures jars { self.new.jars ≡ self.old.jars }
+        ensures store { self.new.store ≡ self.old.store }
+        ensures focus { self.new.focus ≡ self.old.focus }
+        ensures contents { (q : Instance) → content_of self.new.screen q
+            ≡ content_of self.old.screen q }
+        ensures composed { IsComposed self.new.tabs self.new.screen self.new.focus }
+        ensures beside { IsBeside self.new.tabs self.new.screen }
+    {
+        self.redraw(Damage {
+            state: true,
+            bar: true,
+            entry: true,
+        });
+    }
+
+    // Writes the damaged rows of the chrome, and shows the content of the active instance.
+    fn redraw(&mut self, damage: Damage)
+        requires open { IsOpenWhereLive self.old.tabs self.old.screen }
+        requires rest { (r : ℕ) → r < 3 → is_damaged damage r ≡ false → chrome_at self.old.screen r
+            ≡ padded (chrome_by self.old.tabs self.old.focus r) }
+        ensures hosts { self.new.hosts ≡ self.old.hosts }
+        ensures tabs { self.new.tabs ≡ self.old.tabs }
+        ensures jars { self.new.jars ≡ self.old.jars }
+        ensures store { self.new.store ≡ self.old.store }
         ensures focus { self.new.focus ≡ self.old.focus }
         ensures contents { (q : Instance) → content_of self.new.screen q
             ≡ content_of self.old.screen q }
@@ -140,12 +211,9 @@ impl Parts {
     {
         let active = self.tabs.active();
         self.screen.show(active);
-        self.screen
-            .chrome(0, state_row(active, self.focus.spot()).as_slice());
-        self.screen
-            .chrome(1, address_row(&self.tabs, active).as_slice());
-        self.screen
-            .chrome(2, entry_row(self.focus.entry()).as_slice());
+        write_state(&mut self.screen, active, self.focus.spot(), damage.state);
+        write_bar(&mut self.screen, &self.tabs, active, damage.bar);
+        write_entry(&mut self.screen, self.focus.entry(), damage.entry);
     }
 
     /// What is seen of the screen.
@@ -170,6 +238,7 @@ impl Parts {
         requires items { out.old.items ≡ [] }
         ensures makes { OnOk result (Makes self.old (Start tab url.now) out.new self.new) }
         ensures hosts { self.new.hosts ≡ self.old.hosts }
+        ensures store { self.new.store ≡ self.old.store }
     {
         start(
             &mut self.tabs,
@@ -193,6 +262,7 @@ impl Parts {
         requires items { out.old.items ≡ [] }
         ensures makes { Makes self.old (Switch tab) out.new self.new }
         ensures hosts { self.new.hosts ≡ self.old.hosts }
+        ensures store { self.new.store ≡ self.old.store }
     {
         switch(&mut self.tabs, tab, out);
         if is_accepted(out) {
@@ -207,6 +277,7 @@ impl Parts {
         requires items { out.old.items ≡ [] }
         ensures makes { OnOk result (Makes self.old (Close tab) out.new self.new) }
         ensures hosts { self.new.hosts ≡ self.old.hosts }
+        ensures store { self.new.store ≡ self.old.store }
     {
         let was_active = self.tabs.is_active(tab);
         close(&mut self.tabs, &mut self.screen, tab, out)?;
@@ -223,6 +294,7 @@ impl Parts {
         requires items { out.old.items ≡ [] }
         ensures makes { OnOk result (Makes self.old (Press key) out.new self.new) }
         ensures hosts { self.new.hosts ≡ self.old.hosts }
+        ensures store { self.new.store ≡ self.old.store }
     {
         press(
             &mut self.tabs,
@@ -242,6 +314,7 @@ impl Parts {
         requires items { out.old.items ≡ [] }
         ensures makes { OnOk result (Makes self.old (Click row col) out.new self.new) }
         ensures hosts { self.new.hosts ≡ self.old.hosts }
+        ensures store { self.new.store ≡ self.old.store }
     {
         let active = self.tabs.active();
         click(&mut self.focus, active, row, col, out)?;
@@ -261,6 +334,7 @@ impl Parts {
         requires items { out.old.items ≡ [] }
         ensures makes { OnOk result (Makes self.old (Go who url.now) out.new self.new) }
         ensures hosts { self.new.hosts ≡ self.old.hosts }
+        ensures store { self.new.store ≡ self.old.store }
     {
         go(
             &mut self.tabs,
@@ -272,30 +346,5 @@ impl Parts {
             out,
         )?;
         Ok(())
-    }
-}
-
-// The address bar of the active instance, if there is one.
-fn address_row(tabs: &Tabs, active: Option<Instance>) -> Row
-    requires { IfSome active (λ who. live_at tabs.now who.tab ≡ Some who) }
-    ensures { result.items ≡ bar_at tabs.now active }
-{
-    match active {
-        Some(who) => bar_row(tabs.url(who)),
-        None => ArrayVec::new(),
-    }
-}
-
-// Whether the chrome or the instance shown may be others after an act.
-fn composes(act: &Act) -> bool
-    ensures { result ≡ spec.composes act.now }
-{
-    match act {
-        Act::Start { .. } | Act::Switch { .. } | Act::Close { .. } => true,
-        Act::Press { .. } | Act::Click { .. } | Act::Go { .. } => true,
-        Act::Look | Act::Draw { .. } | Act::CookieSet { .. } | Act::CookieGet { .. } => false,
-        Act::Bind { .. } | Act::Unbind { .. } | Act::Done { .. } => false,
-        Act::RegRead { .. } | Act::RegWrite { .. } => false,
-        Act::RxPost { .. } | Act::RxBell | Act::WireIn { .. } => false,
     }
 }

@@ -33,6 +33,7 @@ pub fn start(
     ensures tabs { OnOk result (tabs.new ≡ (if is_ok out.new.head
         then with_started tabs.old tab (allowed hosts.now url.now) else tabs.old)) }
     ensures follows { OnOk result (ContentsFollow tabs.old tabs.new screen.old screen.new) }
+    ensures chrome { OnOk result (screen.new.chrome ≡ screen.old.chrome) }
     ensures denied { OnOk result (is_ok out.new.head ≡ false → screen.new ≡ screen.old) }
 {
     let who = match tabs.may_start(tab) {
@@ -84,6 +85,7 @@ pub fn close(tabs: &mut Tabs, screen: &mut Screen, tab: u8, out: &mut Outcome) -
         then record (with_seat tabs.old tab (closed (seat_at tabs.old tab)))
         { active = without tab tabs.old.active } else tabs.old)) }
     ensures follows { OnOk result (ContentsFollow tabs.old tabs.new screen.old screen.new) }
+    ensures chrome { OnOk result (screen.new.chrome ≡ screen.old.chrome) }
     ensures denied { OnOk result (is_ok out.new.head ≡ false → screen.new ≡ screen.old) }
 {
     match tabs.close(tab) {
@@ -117,6 +119,7 @@ pub fn go(
     ensures tabs { OnOk result (tabs.new ≡ (if is_ok out.new.head
         then with_gone tabs.old who (allowed hosts.now url.now) else tabs.old)) }
     ensures follows { OnOk result (ContentsFollow tabs.old tabs.new screen.old screen.new) }
+    ensures chrome { OnOk result (screen.new.chrome ≡ screen.old.chrome) }
     ensures denied { OnOk result (is_ok out.new.head ≡ false → screen.new ≡ screen.old) }
 {
     match Page::read(alloc, hosts, url) {
@@ -150,6 +153,7 @@ fn go_to(
     ensures tabs { OnOk result (tabs.new ≡ (if is_ok out.new.head
         then with_gone tabs.old who (Ok page) else tabs.old)) }
     ensures follows { OnOk result (ContentsFollow tabs.old tabs.new screen.old screen.new) }
+    ensures chrome { OnOk result (screen.new.chrome ≡ screen.old.chrome) }
     ensures denied { OnOk result (is_ok out.new.head ≡ false → screen.new ≡ screen.old) }
 {
     match tabs.go(who, page) {

@@ -6,7 +6,11 @@ use Rattle.ibos_model.specs.Laws.{Views}
 use Rattle.ibos_kernel.specs.Standing.{entry, remote_of}
 use Rattle.ibos_kernel.specs.Halves.{begun, opened_in, with_ended}
 use Rattle.ibos_kernel.proofs.PageActs.{counted_after, lives_if, named_if, net_goes, new_if, none_turned, origins_of, room_if, turn_made}
+use Rattle.ibos_kernel.proofs.StoredKeys.{asked_of}
 use Rattle.ibos_kernel.proofs.halves.serve_pages.Goals as goal
+
+pub serve-requires-clause-asked : goal.serve-requires-clause-asked
+serve-requires-clause-asked c = asked_of c.requires.together.0 c.args.pages.now c.requires.together.1.pages_stand
 
 pub end-requires : goal.end-requires
 end-requires c =
@@ -61,7 +65,7 @@ begin-requires-clause-together c =
       remote_of H J,
       network J,
       c.end.ensures.stands (life_of H J) (remote_of H J) (network J) stand.net_stands,
-      new_if c.unborn_have_nothing.ensures H J _ _ _ c.ended_in.result c.opened_in.result stand.pages_stand.run turn,
+      new_if c.unborn_have_nothing.ensures.bare c.unborn_have_nothing.ensures.quiet H J _ _ _ c.ended_in.result c.opened_in.result stand.pages_stand.run turn,
     )
 
 pub returns-clause-net : goal.returns-clause-net
@@ -73,7 +77,7 @@ returns-clause-net c = λ J log stand.
     let seen = ap (λ (p : Parts). p.tabs) c.pages-2.view_is in
     net_goes c.lives_may_change.ensures J H c.args.act.now c.serve.new.out log c.args.pages.now.tabs c.serve.new.self.tabs c.pages-2.inside.tabs c.ended_in.result c.opened_in.result c.begin.new.net c.requires.pages seen turn
     (c.in_ok-begin.ensures.stands (with_ended c.ended_in.result (life_of H J)) (remote_of H J) (network J) (c.end.ensures.stands (life_of H J) (remote_of H J) (network J) stand.net_stands)
-    (new_if c.unborn_have_nothing.ensures H J _ _ _ c.ended_in.result c.opened_in.result stand.pages_stand.run turn))
+    (new_if c.unborn_have_nothing.ensures.bare c.unborn_have_nothing.ensures.quiet H J _ _ _ c.ended_in.result c.opened_in.result stand.pages_stand.run turn))
 
 pub returns-clause-counted : goal.returns-clause-counted
 returns-clause-counted c =
