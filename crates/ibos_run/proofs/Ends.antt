@@ -1,5 +1,8 @@
 -- The end of a run.
 use Rattle.std.proofs.Common.{◌≡◌, ℕ, List, [], ◌++◌, Option, Some, None, sym, ◌∙◌, ap, subst, length, append-nil}
+use Rattle.std.proofs.lemmas.List.Elements.{All-take}
+use Rattle.std.proofs.Math.Seq.{take-append_seam}
+use Rattle.std.specs.List.{All}
 use Rattle.std.specs.Prelude.{IfSome}
 use Rattle.ibos_origin.specs.Hosts.{HostTable}
 use Rattle.ibos_nic.specs.declared.log.LogEntry.{LogEntry}
@@ -7,8 +10,10 @@ use Rattle.ibos_nic.specs.Registers.{Registers}
 use Rattle.ibos_model.specs.Inputs.{Input, NoForm, NoHosts, Session, Reading, Refusal, journal_of, last_line, refusal_line, session_text, wanted}
 use Rattle.ibos_model.specs.Journal.{Journal, frames}
 use Rattle.ibos_model.specs.Logs.{frames_in, sent_in, written_in}
+use Rattle.ibos_model.specs.Laws.{AreRuns, AreSentRightly as AreRight, IsOfASend}
+use Rattle.ibos_model.specs.Network.{network, sent_frames}
 use Rattle.ibos_model.specs.Text.{text_of}
-use Rattle.ibos_run.specs.Device.{IsLogFront, IsLogOf, IsLoggedFront}
+use Rattle.ibos_run.specs.Device.{AreSentRightly, IsLogFront, IsLogOf, IsLogged, IsLoggedFront}
 use Rattle.ibos_run.specs.Session.{IsBroken, IsServed, IsStopped, IsTold}
 use Rattle.ibos_run.specs.Took.{Took, TookFront}
 use Rattle.ibos_run.proofs.Sessions.{IsOver}
@@ -26,7 +31,7 @@ with_last H whole first now gathered text f l acts refused over pushed =
     (took_more first now gathered (text_of J) (last_line (length J) whole.refused) over.served.text)
 
 all_front : (J : Journal) (l : List LogEntry) → IsLogOf J l → IsLogFront J l
-all_front J l is = record { came = ([], append-nil (frames_in l) ∙ is.came); sent = is.sent }
+all_front J l is = record { came = ([], append-nil (frames_in l) ∙ is.came); sent = ([], append-nil (sent_in l) ∙ is.sent) }
 
 -- all is handed over
 pub told : (H : HostTable) (whole : Reading) (first now new : Option (List ℕ)) (gathered text : List ℕ) (f : Registers) (l : List LogEntry)
@@ -67,7 +72,7 @@ none_logged NoForm l is = is
 none_logged (NoHosts refusal) l is = is
 none_logged (Session H reading) l is = record {
   came = (frames (journal_of H reading (written_in l)), ap (λ (m : List LogEntry). frames_in m ++ frames (journal_of H reading (written_in l))) is);
-  sent = ap sent_in is;
+  sent = (sent_frames (network (journal_of H reading (written_in l))), ap (λ (m : List LogEntry). sent_in m ++ sent_frames (network (journal_of H reading (written_in l)))) is);
 }
 
 -- nothing was taken, and nothing is gathered
@@ -96,3 +101,47 @@ refused_told refusal first now f l none took = record { text = took; logged = no
 
 pub refused_broken : (refusal : Refusal) (first now : Option (List ℕ)) (gathered : List ℕ) (l : List LogEntry) → l ≡ [] → TookFront first now gathered (refusal_line refusal) → IsBroken (NoHosts refusal) first now gathered l
 refused_broken refusal first now gathered l none front = record { text = front; logged = none }
+
+-- ---- what went out
+
+-- what holds of all holds of each front
+all_of_front : {A : Type 0} (P : A → Type 0) (xs more : List A) → All P (xs ++ more) → All P xs
+all_of_front {A} P xs more all =
+    let Q : List A → Type 0 = All P in
+    subst Q (take-append_seam xs more) (All-take P (length xs) (xs ++ more) all)
+
+sent_right : AreRuns → AreRight → (i : Input) (l : List LogEntry) → IsLoggedFront i l → AreSentRightly i l
+sent_right runs right NoForm l logged = tt
+sent_right runs right (NoHosts refusal) l logged = tt
+sent_right runs right (Session H reading) l logged =
+    let J : Journal = journal_of H reading (written_in l) in
+    let P : List (List ℕ) → Type 0 = All (IsOfASend H J) in
+    all_of_front (IsOfASend H J) (sent_in l) logged.sent.0 (subst P (sym logged.sent.1) (right H J (runs H reading.acts (written_in l))))
+
+front_right_if : AreRuns → AreRight → (i : Option Input) (l : List LogEntry) → IfSome i (λ i. IsLoggedFront i l) → IfSome i (λ i. AreSentRightly i l)
+front_right_if runs right None l logged = tt
+front_right_if runs right (Some i) l logged = sent_right runs right i l logged
+
+logged_front : (i : Input) (l : List LogEntry) → IsLogged i l → IsLoggedFront i l
+logged_front NoForm l logged = logged
+logged_front (NoHosts refusal) l logged = logged
+logged_front (Session H reading) l logged = all_front (journal_of H reading (written_in l)) l logged
+
+told_front_if : (i : Option Input) (first now : Option (List ℕ)) (f : Registers) (l : List LogEntry) → IfSome i (λ i. IsTold i first now f l) → IfSome i (λ i. IsLoggedFront i l)
+told_front_if None first now f l told = tt
+told_front_if (Some i) first now f l told = logged_front i l told.logged
+
+broken_front_if : (i : Option Input) (first now : Option (List ℕ)) (gathered : List ℕ) (l : List LogEntry) → IfSome i (λ i. IsBroken i first now gathered l) → IfSome i (λ i. IsLoggedFront i l)
+broken_front_if None first now gathered l broken = tt
+broken_front_if (Some i) first now gathered l broken = broken.logged
+
+-- the words' inputs are those of the files that they name
+pub told_right : AreRuns → AreRight → (i j : Option Input) → j ≡ i → (first now : Option (List ℕ)) (f : Registers) (l : List LogEntry) → IfSome i (λ i. IsTold i first now f l) → IfSome j (λ i. AreSentRightly i l)
+told_right runs right i j same first now f l told =
+    let P : Option Input → Type 0 = λ x. IfSome x (λ i. AreSentRightly i l) in
+    subst P (sym same) (front_right_if runs right i l (told_front_if i first now f l told))
+
+pub broken_right : AreRuns → AreRight → (i j : Option Input) → j ≡ i → (first now : Option (List ℕ)) (gathered : List ℕ) (l : List LogEntry) → IfSome i (λ i. IsBroken i first now gathered l) → IfSome j (λ i. AreSentRightly i l)
+broken_right runs right i j same first now gathered l broken =
+    let P : Option Input → Type 0 = λ x. IfSome x (λ i. AreSentRightly i l) in
+    subst P (sym same) (front_right_if runs right i l (broken_front_if i first now gathered l broken))

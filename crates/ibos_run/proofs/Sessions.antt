@@ -1,24 +1,20 @@
 -- A session, act by act.
 use Rattle.std.proofs.Common.{◌≡◌, ℕ, ◌+◌, List, [], ◌∷◌, ◌++◌, Bool, true, false, Option, refl, sym, ◌∙◌, ap, subst, length, append-nil, inl, inr}
-use Rattle.std.specs.Prelude.{◌⊎◌, if◌then◌else◌}
+use Rattle.std.specs.Prelude.{if◌then◌else◌}
 use Rattle.ibos_kinds.specs.declared.act.Act.{Act}
 use Rattle.ibos_kinds.specs.declared.outcome.Outcome.{Outcome}
-use Rattle.ibos_kinds.specs.declared.outcome.Item.{Item}
-use Rattle.ibos_kinds.specs.declared.outcome.Item.TheVariants.{VerdictIs}
-use Rattle.ibos_kinds.specs.declared.names.Verdict.TheVariants.{Heard}
 use Rattle.ibos_script.specs.Printed.{outcome_text}
 use Rattle.ibos_origin.specs.Hosts.{HostTable}
 use Rattle.ibos_nic.specs.declared.log.LogEntry.{LogEntry}
-use Rattle.ibos_nic.specs.declared.log.LogEntry.TheVariants.{In}
 use Rattle.ibos_nic.specs.Registers.{Registers}
-use Rattle.ibos_model.specs.Journal.{Entry, Journal, Kind, Hears, Sends, Nothing, frame_of, frames, heard, hears, if_heard, is_heard, kind_in, kind_of}
+use Rattle.ibos_model.specs.Journal.{Entry, Journal, Kind, Hears, Sends, Nothing, frame_of, frames, heard, hears, if_heard, is_heard, is_sent, kind_of, transmits}
 use Rattle.ibos_model.specs.Logs.{Loses, frames_in, got_for, log_after, log_by, newest_in, sent_in, written_in}
-use Rattle.ibos_model.specs.Network.{network}
+use Rattle.ibos_model.specs.Network.{network, next_frame, sent_frames}
 use Rattle.ibos_model.specs.Outcomes.{out}
 use Rattle.ibos_model.specs.Rings.{register}
-use Rattle.ibos_model.specs.Runs.{Follows, GoesOn, IsWritten, entry_of, left_by, run, run_from}
+use Rattle.ibos_model.specs.Runs.{Follows, GoesOn, IsRun, IsWritten, entry_of, left_by, run, run_from, written_by}
 use Rattle.ibos_model.specs.Text.{text_of}
-use Rattle.ibos_model.specs.Laws.{AreFrameFronts, AreFronts, DoGoOn}
+use Rattle.ibos_model.specs.Laws.{AreFrameFronts, AreFronts, AreSentFronts, AreSentInTurn, DoGoOn}
 use Rattle.ibos_model.specs.Inputs.{Refusal, Reading, onto_acts, journal_of, last_line, session_text}
 use Rattle.ibos_kernel.specs.Tables.{Tables}
 use Rattle.ibos_kernel.specs.Standing.{Agrees, AreTogether, Stands, entry}
@@ -57,6 +53,11 @@ pub together : (H : HostTable) (whole left : Reading) (first now : Option (List 
     → IsServing H whole left first now gathered k f l J → AreTogether k f l
 together H whole left first now gathered k f l J serving = (J, serving.stands, agrees_there H whole left first now gathered k f l J serving)
 
+-- the journal is that of a run
+run_there : (H : HostTable) (whole left : Reading) (first now : Option (List ℕ)) (gathered : List ℕ) (k : Tables) (f : Registers) (l : List LogEntry) (J : Journal)
+    → IsServing H whole left first now gathered k f l J → IsRun H J
+run_there H whole left first now gathered k f l J serving = subst (λ (T : HostTable). IsRun T J) serving.table serving.stands.parts.run
+
 -- ---- one act
 
 got_written : (h : Bool) (w : List ℕ) → IsWritten h (if h then w else [])
@@ -86,40 +87,42 @@ next_serving goes_on H whole left after first now new gathered more k k' f f' l 
       agrees = made.agrees;
       text = took_then first now new (gathered ++ line) more (text_of J ++ line) (took_more first now gathered (text_of J) line serving.text) made.text;
       goes = goes_on H J e after.acts whole.acts (follows H J act l') (subst (λ (r : Reading). GoesOn H J r.acts whole.acts) split serving.goes);
-      came = ap frames_in made.log ∙ frames_grow (kind_of (out H J act)) (frame_of act) (got_for (out H J act) l') [] l
+      came = ap frames_in made.log ∙ frames_grow (kind_of (out H J act)) (frame_of act) (got_for (out H J act) l') (next_frame (network J)) l
           ∙ ap (λ fs. fs ++ if_heard (out H J act) (frame_of act)) serving.came;
       refuses = ap (λ (r : Reading). r.refused) (sym split) ∙ serving.refuses;
     }
 
-none_sent : (items : List Item) → kind_in items ≡ Sends → ⊥
-none_sent (VerdictIs Heard ∷ items) is = cc is
-none_sent items is = cc is
-
 -- an act that was made is no loss
-pub made_loses : (H : HostTable) (J : Journal) (act : Act) (o : Outcome) (w : List ℕ) (l l' : List LogEntry) → o ≡ out H J act → l' ≡ log_after o (frame_of act) w [] l → Loses (out H J act) act l l'
-made_loses H J act o w l l' is log = subst (λ (o : Outcome). Loses o act l l') is (by_kind (kind_of o) refl log)
+pub made_loses : (H : HostTable) (J : Journal) (act : Act) (o : Outcome) (w b : List ℕ) (l l' : List LogEntry) → o ≡ out H J act → l' ≡ log_after o (frame_of act) w b l → Loses (out H J act) act b l l'
+made_loses H J act o w b l l' is log = subst (λ (o : Outcome). Loses o act b l l') is (by_kind (kind_of o) refl log)
   where
-    by_kind : (k : Kind) → kind_of o ≡ k → l' ≡ log_by k (frame_of act) w [] l → (l' ≡ l) ⊎ ((w : List ℕ) × (is_heard o ≡ true) × (l' ≡ In (frame_of act) w ∷ l))
-    by_kind Hears is log = inr (w, ap hears is, log)
-    by_kind Sends is log = absurd (none_sent o.items is)
+    by_kind : (k : Kind) → kind_of o ≡ k → l' ≡ log_by k (frame_of act) w b l → Loses o act b l l'
+    by_kind Hears is log = inr (inl (w, ap hears is, log))
+    by_kind Sends is log = inr (inr (ap transmits is, log))
     by_kind Nothing is log = inl log
 
 -- ---- an early end
 
--- the run goes on to the whole, by way of one journal for the text and of one for the log
-stopped_by : AreFronts → AreFrameFronts → (H : HostTable) (whole : Reading) (first now : Option (List ℕ)) (gathered : List ℕ) (l : List LogEntry) (J K : Journal) (A B : List Act) (V W : List (List ℕ))
+-- the run goes on to the whole, by way of one journal for the text, of one for what came in and of
+-- one for what went out
+stopped_by : AreFronts → AreFrameFronts → AreSentFronts → (H : HostTable) (whole : Reading) (first now : Option (List ℕ)) (gathered : List ℕ) (l : List LogEntry) (J K L : Journal) (A B C : List Act) (V W X : List (List ℕ))
     → TookFront first now gathered (text_of J) → run_from H J A V ≡ journal_of H whole (written_in l)
-    → frames_in l ≡ frames K → run_from H K B W ≡ journal_of H whole (written_in l) → sent_in l ≡ []
+    → frames_in l ≡ frames K → run_from H K B W ≡ journal_of H whole (written_in l)
+    → sent_in l ≡ sent_frames (network L) → IsRun H L → run_from H L C X ≡ journal_of H whole (written_in l)
     → IsStopped H whole first now gathered l
 unfolding session_text
-stopped_by fronts frame_fronts H whole first now gathered l J K A B V W took text-on came came-on sent =
+stopped_by fronts frame_fronts sent_fronts H whole first now gathered l J K L A B C V W X took text-on came came-on sent is-run sent-on =
     let text = fronts H J A V in
     let log = frame_fronts H K B W in
+    let out = sent_fronts H L C X is-run in
     let journal : Journal = journal_of H whole (written_in l) in
     record {
       text = front_more first now gathered (text_of journal) (last_line (length journal) whole.refused)
           (subst (λ t. TookFront first now gathered t) (text.1 ∙ ap (λ (j : Journal). text_of j) text-on) (front_more first now gathered (text_of J) text.0 took));
-      logged = record { came = (log.0, ap (λ fs. fs ++ log.0) came ∙ log.1 ∙ ap (λ (j : Journal). frames j) came-on); sent = sent };
+      logged = record {
+        came = (log.0, ap (λ fs. fs ++ log.0) came ∙ log.1 ∙ ap (λ (j : Journal). frames j) came-on);
+        sent = (out.0, ap (λ fs. fs ++ out.0) sent ∙ out.1 ∙ ap (λ (j : Journal). sent_frames (network j)) sent-on);
+      };
     }
 
 -- the run from here on, where X will be heard
@@ -127,18 +130,29 @@ rest_is : (H : HostTable) (whole : Reading) (J : Journal) (A : List Act) (W X : 
 rest_is H whole J A W X goes is = goes X ∙ ap (run H whole.acts) (sym is)
 
 -- between two acts
-pub paused : AreFronts → AreFrameFronts → (H : HostTable) (whole left : Reading) (first now : Option (List ℕ)) (gathered : List ℕ) (k : Tables) (f : Registers) (l : List LogEntry) (J : Journal)
+pub paused : AreFronts → AreFrameFronts → AreSentFronts → (H : HostTable) (whole left : Reading) (first now : Option (List ℕ)) (gathered : List ℕ) (k : Tables) (f : Registers) (l : List LogEntry) (J : Journal)
     → IsServing H whole left first now gathered k f l J → IsStopped H whole first now gathered l
-paused fronts frame_fronts H whole left first now gathered k f l J serving =
+paused fronts frame_fronts sent_fronts H whole left first now gathered k f l J serving =
     let on : run_from H J left.acts [] ≡ journal_of H whole (written_in l) =
     rest_is H whole J left.acts (written_in l) [] serving.goes (serving.agrees.written ∙ sym (append-nil (heard J))) in
-    stopped_by fronts frame_fronts H whole first now gathered l J J left.acts left.acts [] [] (front_of first now gathered (text_of J) serving.text) on serving.came on serving.agrees.sent
+    stopped_by fronts frame_fronts sent_fronts H whole first now gathered l J J J left.acts left.acts left.acts [] [] [] (front_of first now gathered (text_of J) serving.text) on serving.came on
+    serving.agrees.sent (run_there H whole left first now gathered k f l J serving) on
+
+sent_so : (s : Bool) (b : List ℕ) (B : List (List ℕ)) → s ≡ true → B ++ b ∷ [] ≡ B ++ (if s then b ∷ [] else [])
+sent_so s b B is = rw is refl
+
+came_so : (h : Bool) (frame : List ℕ) (F : List (List ℕ)) → h ≡ true → F ++ frame ∷ [] ≡ F ++ (if h then frame ∷ [] else [])
+came_so h frame F is = rw is refl
+
+next_written : (h : Bool) (W : List (List ℕ)) → IsWritten h (written_by h W)
+next_written true W = tt
+next_written false W = refl
 
 -- within an act
-pub cut_stopped : AreFronts → AreFrameFronts → (H : HostTable) (whole left after : Reading) (first now new : Option (List ℕ)) (gathered more : List ℕ) (k : Tables) (f : Registers) (l l' : List LogEntry) (act : Act) (J : Journal)
+pub cut_stopped : AreFronts → AreFrameFronts → AreSentFronts → AreSentInTurn → (H : HostTable) (whole left after : Reading) (first now new : Option (List ℕ)) (gathered more : List ℕ) (k : Tables) (f : Registers) (l l' : List LogEntry) (act : Act) (J : Journal)
     → IsServing H whole left first now gathered k f l J → left ≡ onto_acts act after
     → IsCut k.hosts J act now new gathered more l l' → IsStopped H whole first new more l'
-cut_stopped fronts frame_fronts H whole left after first now new gathered more k f l l' act J serving split cut-there = by_log cut.loses
+cut_stopped fronts frame_fronts sent_fronts in_turn H whole left after first now new gathered more k f l l' act J serving split cut-there = by_log cut.loses
   where
     cut : IsCut H J act now new gathered more l l'
     cut = subst (λ (T : HostTable). IsCut T J act now new gathered more l l') serving.table cut-there
@@ -154,23 +168,35 @@ cut_stopped fronts frame_fronts H whole left after first now new gathered more k
         front_then first now new (gathered ++ line) more (text_of J ++ line)
         (front_of first now (gathered ++ line) (text_of J ++ line) (took_more first now gathered (text_of J) line serving.text)) cut.text
 
-    by_log : Loses (out H J act) act l l' → IsStopped H whole first new more l'
+    is-run : IsRun H J
+    is-run = run_there H whole left first now gathered k f l J serving
+
+    -- where nothing more was heard
+    on_to : written_in l' ≡ written_in l → run_from H J (act ∷ after.acts) [] ≡ journal_of H whole (written_in l')
+    on_to same = rest_is H whole J (act ∷ after.acts) (written_in l') [] goes (same ∙ serving.agrees.written ∙ sym (append-nil (heard J)))
+
+    by_log : Loses (out H J act) act (next_frame (network J)) l l' → IsStopped H whole first new more l'
     by_log (inl same) =
-        let on : run_from H J (act ∷ after.acts) [] ≡ journal_of H whole (written_in l') =
-        rest_is H whole J (act ∷ after.acts) (written_in l') [] goes (ap written_in same ∙ serving.agrees.written ∙ sym (append-nil (heard J))) in
-        stopped_by fronts frame_fronts H whole first new more l' (entry_of H J [] act ∷ J) J after.acts (act ∷ after.acts) (left_by (is_heard (out H J act)) []) [] took on
-        (ap frames_in same ∙ serving.came) on (ap sent_in same ∙ serving.agrees.sent)
-    by_log (inr grown) =
+        let on = on_to (ap written_in same) in
+        stopped_by fronts frame_fronts sent_fronts H whole first new more l' (entry_of H J [] act ∷ J) J J after.acts (act ∷ after.acts) (act ∷ after.acts) (left_by (is_heard (out H J act)) []) [] [] took on
+        (ap frames_in same ∙ serving.came) on (ap sent_in same ∙ serving.agrees.sent) is-run on
+    by_log (inr (inl grown)) =
         let W = grown.0 ∷ [] in
         let on : run_from H J (act ∷ after.acts) W ≡ journal_of H whole (written_in l') =
         rest_is H whole J (act ∷ after.acts) (written_in l') W goes (ap written_in grown.2 ∙ ap (λ ws. ws ++ W) serving.agrees.written) in
-        stopped_by fronts frame_fronts H whole first new more l' (entry_of H J W act ∷ J) (entry_of H J W act ∷ J) after.acts after.acts
-        (left_by (is_heard (out H J act)) W) (left_by (is_heard (out H J act)) W) took on
-        (ap frames_in grown.2 ∙ ap (λ fs. fs ++ frame_of act ∷ []) serving.came ∙ came-so (is_heard (out H J act)) grown.1) on
-        (ap sent_in grown.2 ∙ serving.agrees.sent)
-      where
-        came-so : (h : Bool) → h ≡ true → frames J ++ frame_of act ∷ [] ≡ frames J ++ (if h then frame_of act ∷ [] else [])
-        came-so h is = rw is refl
+        stopped_by fronts frame_fronts sent_fronts H whole first new more l' (entry_of H J W act ∷ J) (entry_of H J W act ∷ J) J after.acts after.acts (act ∷ after.acts)
+        (left_by (is_heard (out H J act)) W) (left_by (is_heard (out H J act)) W) W took on
+        (ap frames_in grown.2 ∙ ap (λ fs. fs ++ frame_of act ∷ []) serving.came ∙ came_so (is_heard (out H J act)) (frame_of act) (frames J) grown.1) on
+        (ap sent_in grown.2 ∙ serving.agrees.sent) is-run on
+    by_log (inr (inr sent)) =
+        let on = on_to (ap written_in sent.1) in
+        let e : Entry = entry_of H J [] act in
+        let b : List ℕ = next_frame (network J) in
+        let after-run : IsRun H (e ∷ J) = (record { outcome = refl; written = next_written (is_heard (out H J act)) [] }, is-run) in
+        stopped_by fronts frame_fronts sent_fronts H whole first new more l' (e ∷ J) J (e ∷ J) after.acts (act ∷ after.acts) after.acts
+        (left_by (is_heard (out H J act)) []) [] (left_by (is_heard (out H J act)) []) took on
+        (ap frames_in sent.1 ∙ serving.came) on
+        (ap sent_in sent.1 ∙ ap (λ fs. fs ++ b ∷ []) serving.agrees.sent ∙ sent_so (is_sent (out H J act)) b (sent_frames (network J)) sent.0 ∙ sym (in_turn H J e after-run)) after-run on
 
 -- ---- the script's end
 
@@ -187,7 +213,7 @@ over H whole left first now gathered k f l J refused serving ends =
     record {
       served = record {
         text = subst (λ (j : Journal). Took first now gathered (text_of j)) all serving.text;
-        logged = record { came = serving.came ∙ ap (λ (j : Journal). frames j) all; sent = serving.agrees.sent };
+        logged = record { came = serving.came ∙ ap (λ (j : Journal). frames j) all; sent = serving.agrees.sent ∙ ap (λ (j : Journal). sent_frames (network j)) all };
         registers = λ r. serving.agrees.registers r ∙ ap (λ (j : Journal). register H.local (network j).rings r) all;
       };
       counted = sym serving.stands.acts ∙ ap (λ (j : Journal). length j) all;

@@ -8,7 +8,7 @@ use Rattle.ibos_nic.specs.Registers.{Registers}
 use Rattle.ibos_model.specs.Inputs.{Input, Reading, journal_of, session_text, wanted}
 use Rattle.ibos_model.specs.Journal.{Journal, frame_of}
 use Rattle.ibos_model.specs.Logs.{Loses, got_for, log_after, written_in}
-use Rattle.ibos_model.specs.Network.{network}
+use Rattle.ibos_model.specs.Network.{network, next_frame}
 use Rattle.ibos_model.specs.Outcomes.{out}
 use Rattle.ibos_model.specs.Text.{text_of}
 use Rattle.ibos_net.specs.NetStanding.{AreRegisters}
@@ -23,12 +23,13 @@ pub record IsMade (H : HostTable) (J : Journal) (act : Act) (before now : Option
   pub stands : Stands (entry act (out H J act) l' ∷ J) k
   pub agrees : Agrees H (entry act (out H J act) l' ∷ J) f l'
   pub text : Took before now gathered (old ++ outcome_text (length J + 1) (out H J act))
-  pub log : l' ≡ log_after (out H J act) (frame_of act) (got_for (out H J act) l') [] l
+  pub log : l' ≡ log_after (out H J act) (frame_of act) (got_for (out H J act) l')
+      (next_frame (network J)) l
 
 -- One act was cut off.
 pub record IsCut (H : HostTable) (J : Journal) (act : Act) (before now : Option (List ℕ))
     (old gathered : List ℕ) (l l' : List LogEntry) : Type 0 where
-  pub loses : Loses (out H J act) act l l'
+  pub loses : Loses (out H J act) act (next_frame (network J)) l l'
   pub text : TookFront before now gathered (old ++ outcome_text (length J + 1) (out H J act))
 
 -- All acts of the reading are made.
@@ -38,7 +39,7 @@ pub record IsServed (H : HostTable) (reading : Reading) (first now : Option (Lis
   pub logged : IsLogOf (journal_of H reading (written_in l)) l
   pub registers : AreRegisters H.local (network (journal_of H reading (written_in l))) f
 
--- The session was cut off: what was taken, and what came in, are fronts.
+-- The session was cut off: what was taken, what came in and what went out are fronts.
 pub record IsStopped (H : HostTable) (reading : Reading) (first now : Option (List ℕ))
     (gathered : List ℕ) (l : List LogEntry) : Type 0 where
   pub text : TookFront first now gathered (session_text H reading (written_in l))

@@ -8,7 +8,8 @@ ghost use Rattle.ibos_origin.specs.Tables.{hosts_in};
 ghost use Rattle.ibos_model.specs.Inputs.{IsIsolatedInput, form_in, host_refusal, input};
 ghost use Rattle.ibos_model.specs.Inputs.{input_with, refusal_line, session_in, table_in, wanted};
 ghost use Rattle.ibos_model.specs.Logs.{written_in};
-ghost use Rattle.ibos_run.specs.Device.{AreRegistersOf, IsLogged, IsLoggedFront, IsReset};
+ghost use Rattle.ibos_run.specs.Device.{AreRegistersOf, AreSentRightly, IsLogged, IsLoggedFront};
+ghost use Rattle.ibos_run.specs.Device.{IsReset};
 ghost use Rattle.ibos_run.specs.Faults.{IsCaused, IsFaultless, OnWhole, status_for};
 ghost use Rattle.ibos_run.specs.Forms.{form_of};
 ghost use Rattle.ibos_run.specs.Session.{IsBroken, IsTold};
@@ -21,7 +22,7 @@ use crate::session::run_session;
 use crate::texts::{File, refusal, usage};
 use crate::transfer::{read_file, write_all};
 use ibos_kinds::{Bytes, Cabinet, Failed, Sink};
-use ibos_model::isolation;
+use ibos_model::{acts_make_runs, isolation, sends_are_right};
 use ibos_nic::Nic;
 use ibos_origin::{HostFault, Hosts, HostsFault};
 use std::alloc::Global;
@@ -64,12 +65,18 @@ pub fn run<C: Cabinet, N: Nic, K: Sink>(
     ensures log { OnWhole result (
         IfSome (input words.now (C.holds cabinet.old)) (λ i. IsLogged i (N.log nic.new))) }
 
-    // With any status the sink took a front of that text, and a front of those frames came in.
+    // With any status the sink took a front of that text, a front of those frames came in, and a
+    // front of those that the journal sent went out.
     ensures text_front { IfSome (input words.now (C.holds cabinet.old)) (λ i.
         TookFront (K.taken sink.old) (K.taken sink.new) []
         (wanted i (written_in (N.log nic.new)))) }
     ensures log_front { IfSome (input words.now (C.holds cabinet.old)) (λ i.
         IsLoggedFront i (N.log nic.new)) }
+
+    // Each frame that went out, with any status, is that of a send which the journal accepted. It
+    // breaks no rule: it goes from a port of its sender to the endpoint of its sender's origin.
+    ensures sends { IfSome (input words.now (C.holds cabinet.old)) (λ i.
+        AreSentRightly i (N.log nic.new)) }
 
     // Where the inputs were read to their end, the device's registers are those of their journal.
     ensures registers { OnWhole result (
@@ -100,8 +107,10 @@ pub fn run<C: Cabinet, N: Nic, K: Sink>(
         × (C.faults cabinet.new form.script ≡ C.faults cabinet.old form.script))
         → IsFaultless result }
 {
-    // Called for the law that is its clause.
+    // Called for the laws that its clauses follow from.
     isolation();
+    acts_make_runs();
+    sends_are_right();
     match read_form(words) {
         None => match write_all(sink, usage()) {
             Ok(()) => Status::Usage,

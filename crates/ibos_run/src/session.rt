@@ -18,7 +18,10 @@ use crate::script::{End, MAX_SCRIPT_LEN, Next, Script};
 use crate::texts::{File, end_line, refusal};
 use ibos_kernel::Kernel;
 use ibos_kinds::{Act, Bytes, Memory, Outcome, Sink};
-use ibos_model::{frames_are_fronts, runs_go_on, texts_are_fronts};
+use ibos_model::{
+    frames_are_fronts, frames_are_sent_in_turn, runs_go_on, sent_frames_are_fronts,
+    texts_are_fronts,
+};
 use ibos_nic::Nic;
 use ibos_origin::Hosts;
 use ibos_script::write_outcome;
@@ -114,6 +117,8 @@ fn make_acts<N: Nic, K: Sink>(
     runs_go_on();
     texts_are_fronts();
     frames_are_fronts();
+    sent_frames_are_fronts();
+    frames_are_sent_in_turn();
     let mut outcome = Outcome::new(alloc);
     'acts: loop {
         match script.next(alloc)? {

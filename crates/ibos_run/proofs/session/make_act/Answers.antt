@@ -28,7 +28,7 @@ returns-in_err-write_outcome-clause-cut g c =
     let short : IsCutShort c.args.text.now c.write_outcome.new.text (outcome_text (length J + 1) (out c.args.kernel.now.hosts J c.args.act)) =
     subst (λ (o : Outcome). IsCutShort c.args.text.now c.write_outcome.new.text (outcome_text (length J + 1) o)) is of_number in
     record {
-      loses = made_loses c.args.kernel.now.hosts J c.args.act _ _ _ _ is c.in_ok-stepped.ensures.log;
+      loses = made_loses c.args.kernel.now.hosts J c.args.act _ _ _ _ _ is (c.in_ok-stepped.ensures.log J stands agrees);
       text = front_cut_short _ _ _ _ short;
     } in
     on_err _ _ cut

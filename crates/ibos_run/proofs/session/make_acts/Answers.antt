@@ -15,7 +15,7 @@ acts-init g c = record {
 }
 
 pub returns-in_err-act-clause-stopped : goal.returns-in_err-act-clause-stopped
-returns-in_err-act-clause-stopped g c = on_err _ _ (paused c.texts_are_fronts.ensures c.frames_are_fronts.ensures _ _ _ _ _ _ _ _ _ _ c.acts.invariant.served.1)
+returns-in_err-act-clause-stopped g c = on_err _ _ (paused c.texts_are_fronts.ensures c.frames_are_fronts.ensures c.sent_frames_are_fronts.ensures _ _ _ _ _ _ _ _ _ _ c.acts.invariant.served.1)
 
 pub acts-preserved : goal.acts-preserved
 acts-preserved g c =
@@ -33,7 +33,7 @@ pub returns-in_err-make_act-in-Act-clause-stopped : goal.returns-in_err-make_act
 returns-in_err-make_act-in-Act-clause-stopped g c =
     let served = c.acts.invariant.served in
     let led = subst (λ (n : Next). Leads c.acts.script n c.next.new.self) c.in-Act.is c.in_ok-act.ensures in
-    on_err _ _ (cut_stopped c.texts_are_fronts.ensures c.frames_are_fronts.ensures _ _ _ _ _ _ _ _ _ _ _ _ _ _ _ served.1 led.0
+    on_err _ _ (cut_stopped c.texts_are_fronts.ensures c.frames_are_fronts.ensures c.sent_frames_are_fronts.ensures c.frames_are_sent_in_turn.ensures _ _ _ _ _ _ _ _ _ _ _ _ _ _ _ served.1 led.0
     (c.in_err-make_act-in-Act.ensures.cut served.0 served.1.stands (agrees_there _ _ _ _ _ _ _ _ _ _ served.1)))
 
 pub returns-in-End-clause-served : goal.returns-in-End-clause-served
