@@ -5,3 +5,6 @@ pub mod Joined
 pub mod Spelled
 pub mod Checksums
 pub mod Built
+pub mod DrillHosts
+pub mod Places
+pub mod DrillSteps

@@ -1,10 +1,14 @@
-//! Frames that are built, and the law of frames.
+//! Frames that are built, the law of frames, and drills.
 #![tactic(auto)]
 
 mod building;
+mod drilling;
 mod laws;
+mod opening;
+mod rounds;
 
 pub use building::{FrameSpec, build};
+pub use drilling::{Drill, drill_hosts};
 pub use laws::frames_law;
 
 #[cfg(test)]

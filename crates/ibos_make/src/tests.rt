@@ -1,8 +1,9 @@
-// Six frames by every view, and frames that are built.
+// Six frames by every view, frames that are built, and a drill of one round.
 use super::*;
+use crate::rounds::{drawn, next_number};
 use ibos_eth::EthView;
 use ibos_ip::IpView;
-use ibos_kinds::{Bytes, Dir, Endpoint, Proto, Rule};
+use ibos_kinds::{Act, Bytes, Dir, Endpoint, Instance, Key, Proto, Rule};
 use ibos_tcp::SegView;
 use std::alloc::Global;
 use std::process::Abort;
@@ -165,5 +166,44 @@ fn frames_are_built(rt: HostRuntime) -> Result<(), Fail> {
         BUILT_ONES,
     )?;
     frames_law();
+    Ok(())
+}
+
+#[test]
+fn a_drill_of_one_round_has_89_acts(rt: HostRuntime) -> Result<(), Fail> {
+    let alloc = rt.alloc();
+    let number = next_number(1);
+    assert_eq!(rt; number, 7_806_831_264_735_756_412);
+    assert_eq!(rt; drawn(number), 908_834_774);
+    let mut drill = Drill::new(1, 1);
+    for _ in 0..86 {
+        assert!(rt; drill.next(alloc)?.is_some());
+    }
+    let mut pixels = Bytes::new(alloc);
+    pixels.push_slice(b"&")?;
+    let who = Instance { tab: 2, ord: 0 };
+    let acts = [
+        Act::Switch { tab: 2 },
+        Act::Press {
+            key: Key::Byte(b'&'),
+        },
+        Act::Draw {
+            who,
+            row: 13,
+            col: 21,
+            height: 1,
+            width: 1,
+            pixels,
+        },
+    ];
+    for act in &acts {
+        let Some(next) = drill.next(alloc)? else {
+            panic!(rt; "the drill ended before {act:?}")
+        };
+        assert_eq!(rt; &next, act);
+    }
+    assert!(rt; drill.next(alloc)?.is_none());
+    let hosts = drill_hosts(alloc)?;
+    assert_eq!(rt; hosts.address(b"h7.example"), Some(0xc633_6407));
     Ok(())
 }

@@ -1,0 +1,113 @@
+// A drill: as many acts of all parties as are wanted, made from a number.
+ghost use Rattle.std.specs.Prelude.{◌≡◌, ◌↔◌, ◌∷◌, ◌<◌, [], None, IfOk, IfSome, OnErr};
+ghost use Rattle.ibos_kinds.specs.Limits.{Fits};
+ghost use Rattle.ibos_make.specs.Drill.{drill_acts, drill_table, left};
+ghost use Rattle.ibos_make.specs.Drilling.{next_in};
+
+use crate::opening::{OPENING, opening_act};
+use crate::rounds::{Counts, round_act, round_len};
+use ibos_kinds::{Act, Memory};
+use ibos_origin::{Hosts, HostsFault};
+use std::alloc::Global;
+use std::marker::Model;
+
+// `self` and `gateway`, and a host for each tab.
+const HOSTS: &[u8] = b"self 192.0.2.10 02:00:00:00:00:01
+gateway 02:00:00:00:00:fe
+host h0.example 198.51.100.0
+host h1.example 198.51.100.1
+host h2.example 198.51.100.2
+host h3.example 198.51.100.3
+host h4.example 198.51.100.4
+host h5.example 198.51.100.5
+host h6.example 198.51.100.6
+host h7.example 198.51.100.7
+";
+
+/// The host table of every drill.
+pub fn drill_hosts(alloc: Global) -> Result<Hosts, Memory>
+    ensures { IfOk result (λ hosts. hosts ≡ drill_table) }
+{
+    match Hosts::read(alloc, HOSTS) {
+        Ok(hosts) => Ok(hosts),
+        Err(HostsFault::Memory) => Err(Memory),
+        Err(HostsFault::At { .. }) => unreachable!(),
+    }
+}
+
+/// A drill, act by act. Both rings are set up and eight tabs opened; then comes a round after the
+/// other, each in one tab: a frame comes in or goes out, a cookie is set and read, an object is
+/// stored and asked for, or a key is pressed and the page draws.
+#[derive(Debug, Drop)]
+pub struct Drill {
+    // How many of the acts before the rounds came.
+    opening: u8,
+    // How many rounds are not over, and how many acts of the first of these came.
+    rounds: u32,
+    place: u8,
+    counts: Counts,
+}
+
+impl Model for Drill {
+    ghost use Rattle.ibos_make.specs.Drill.{Drilling};
+
+    ghost Value = { Drilling };
+
+    ghost view = { λ d.
+        record { opening = d.opening; rounds = d.rounds; place = d.place; counts = d.counts } };
+
+    ghost use Rattle.ibos_make.specs.Drilling.{IsWithin};
+
+    ghost invariant = { λ d. IsWithin
+        (record { opening = d.opening; rounds = d.rounds; place = d.place; counts = d.counts }) };
+}
+
+impl Drill {
+    /// The drill of a seed, with so many rounds.
+    pub fn new(seed: u64, rounds: u32) -> Drill
+        ensures { left result ≡ drill_acts seed rounds }
+    {
+        Drill {
+            opening: 0,
+            rounds,
+            place: 0,
+            counts: Counts::new(seed),
+        }
+    }
+
+    /// The next act, which fits; None after the last.
+    pub fn next(&mut self, alloc: Global) -> Result<Option<Act>, Memory>
+        ensures none { IfOk result (λ next. next ≡ None ↔ left self.old ≡ []) }
+        ensures some { IfOk result (λ next.
+            IfSome next (λ act. left self.old ≡ act ∷ left self.new)) }
+        ensures fits { IfOk result (λ next. IfSome next Fits) }
+        ensures over { IfOk result (λ next. next ≡ None → self.new ≡ self.old) }
+        ensures same { OnErr result (self.new ≡ self.old) }
+    {
+        if self.opening < OPENING {
+            let act = opening_act(alloc, self.opening)?;
+            self.opening += 1;
+            return Ok(Some(act));
+        }
+        if self.rounds == 0 {
+            return Ok(None);
+        }
+        let act = round_act(alloc, self.counts.round(), &self.counts, self.place)?;
+        self.go_on();
+        Ok(Some(act))
+    }
+
+    // One more act of a round came.
+    fn go_on(&mut self)
+        requires { 0 < self.old.rounds }
+        ensures { self.new ≡ next_in self.old }
+    {
+        let round = self.counts.round();
+        self.place += 1;
+        if self.place == round_len(round.kind) {
+            self.rounds -= 1;
+            self.place = 0;
+            self.counts.count(round);
+        }
+    }
+}
