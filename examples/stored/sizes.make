@@ -8,8 +8,12 @@ BEGIN {
     print "page 0.0 put a " object(2049)
     for (i = 0; i < 30; i++) printf "page %d.0 put %02d %s\n", i % 2, i, object(2046)
     print "page 0.0 put last " object(2044)
-    print "page 2.0 put x " object(2048)
     print "page 1.0 put last " object(2043)
+    print "page 0.0 put x -"
+    for (i = 0; i < 31; i++) printf "page 2.0 put %02d %s\n", i, object(2046)
+    print "page 2.0 put last " object(2045)
+    print "page 2.0 put last " object(2044)
+    print "page 2.0 put y -"
     print "page 0.0 put x -"
     print "store lose http://shop.example last 1"
     print "page 0.0 put x -"
