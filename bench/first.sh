@@ -2,11 +2,7 @@
 # Times the proved program on cookie scripts of three sizes, a million lines the largest, and shows its
 # largest memory. The time has to grow with the lines, and the memory with the files.
 set -eu
-here=$(cd "$(dirname "$0")/.." && pwd)
-"$here/ibos" run "$here/examples/hosts" "$here/examples/first/script" >/dev/null
-program=$here/crates/ibos_cli/out/ibos_cli
-folder=$(mktemp -d)
-trap 'rm -rf "$folder"' EXIT
+. "$(dirname "$0")/program.sh"
 
 for lines in 250000 500000 1000000; do
     {

@@ -2,11 +2,7 @@
 # Times an act of the proved program at three sizes: cookies set and read over 60 tabs on 60 hosts of a
 # table of 4,096. The time of an act must not grow with the number of acts.
 set -eu
-here=$(cd "$(dirname "$0")/.." && pwd)
-"$here/ibos" run "$here/examples/hosts" "$here/examples/first/script" >/dev/null
-program=$here/crates/ibos_cli/out/ibos_cli
-folder=$(mktemp -d)
-trap 'rm -rf "$folder"' EXIT
+. "$(dirname "$0")/program.sh"
 
 {
     echo "self 192.0.2.10 02:00:00:00:00:01"

@@ -3,11 +3,7 @@
 # ten frames of 114 bytes come, a bell delivers them, and the page is done with each. The time of a frame must
 # not grow with their number. Then all 2,048 instances are opened, whose memory is some 100 MiB at most.
 set -eu
-here=$(cd "$(dirname "$0")/.." && pwd)
-"$here/ibos" run "$here/examples/hosts" "$here/examples/first/script" >/dev/null
-program=$here/crates/ibos_cli/out/ibos_cli
-folder=$(mktemp -d)
-trap 'rm -rf "$folder"' EXIT
+. "$(dirname "$0")/program.sh"
 
 # A UDP frame without a checksum from a.example, port 80, to flow 0 of instance 0.0.
 frame=0200000000010200000000fe0800450000640001400040114e49c6336401c000020a0050800000500000
