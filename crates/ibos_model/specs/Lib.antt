@@ -18,4 +18,3 @@ pub mod Delivered
 pub mod Gives
 pub mod Text
 pub mod Laws
-pub mod Inputs

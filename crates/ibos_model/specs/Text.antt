@@ -1,6 +1,6 @@
 -- The text of a run: the lines of each entry, numbered from 1, and a last line.
 use Rattle.std.specs.Prelude.{ℕ, ◌+◌, List, [], ◌∷◌, ◌++◌, length, codes, decimal}
-use Rattle.ibos_script.specs.Printed.{outcome_text}
+use Rattle.ibos_outcome.specs.Printed.{outcome_text}
 use Rattle.ibos_model.specs.Journal.{Journal}
 
 -- the lines of the entries

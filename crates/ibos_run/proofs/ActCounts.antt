@@ -7,7 +7,8 @@ use Rattle.ibos_script.specs.declared.lines.Line.{Line}
 use Rattle.ibos_script.specs.declared.lines.Line.TheVariants.{Act}
 use Rattle.ibos_script.specs.Lines.{line_in}
 use Rattle.ibos_text.specs.Lines.{lines_of, pieces_of, onto_first, without_return}
-use Rattle.ibos_model.specs.Inputs.{Reading, reading_by, reading_from, refused_by, too_long, is_last}
+use Rattle.ibos_run.specs.Readings.{Reading, reading_by, reading_from, refused_by, is_last}
+use Rattle.ibos_run.specs.Refusals.{too_long}
 
 first_few : (b : ℕ) (pieces : List (List ℕ)) (n : ℕ) → length pieces ≤ n → length (onto_first b pieces) ≤ n + 1
 first_few b [] n few = omega arith

@@ -7,7 +7,9 @@ use Rattle.std.specs.Prelude.{IfSome}
 use Rattle.ibos_origin.specs.Hosts.{HostTable}
 use Rattle.ibos_nic.specs.declared.log.LogEntry.{LogEntry}
 use Rattle.ibos_nic.specs.Registers.{Registers}
-use Rattle.ibos_model.specs.Inputs.{Input, NoForm, NoHosts, Session, Reading, Refusal, journal_of, last_line, refusal_line, session_text, wanted}
+use Rattle.ibos_run.specs.Inputs.{Input, NoForm, NoHosts, Session, journal_of, last_line, session_text, wanted}
+use Rattle.ibos_run.specs.Readings.{Reading}
+use Rattle.ibos_run.specs.Refusals.{Refusal, refusal_line}
 use Rattle.ibos_model.specs.Journal.{Journal, frames}
 use Rattle.ibos_model.specs.Logs.{frames_in, sent_in, written_in}
 use Rattle.ibos_model.specs.Laws.{AreRuns, AreSentRightly as AreRight, IsOfASend}

@@ -2,7 +2,8 @@
 use Rattle.std.proofs.Common.{◌≡◌, List, [], ℕ, Option, Some, None, take, subst}
 use Rattle.std.specs.Prelude.{IfSome}
 use Rattle.ibos_origin.specs.Hosts.{HostTable}
-use Rattle.ibos_model.specs.Inputs.{Input, Session, table_in, script_in, session_in, reading_of}
+use Rattle.ibos_run.specs.Inputs.{Input, Session, table_in, session_in}
+use Rattle.ibos_run.specs.Readings.{script_in, reading_of}
 
 pub table_file : (held : Option (List ℕ)) (text : List ℕ) (P : List ℕ → Type 0) → IfSome held (λ file. text ≡ take 4194305 file) → P text → IfSome held (λ file. P (table_in file))
 unfolding table_in

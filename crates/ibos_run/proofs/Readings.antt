@@ -4,7 +4,8 @@ use Rattle.std.proofs.lemmas.Bool.Decides.{nat_tests}
 use Rattle.std.specs.Prelude.{if◌then◌else◌, ◌==◌, ◌&&◌, MatchOption}
 use Rattle.ibos_script.specs.Lines.{line_in}
 use Rattle.ibos_text.specs.Lines.{lines_of, pieces_of, onto_first, without_return}
-use Rattle.ibos_model.specs.Inputs.{Reading, reading_by, reading_from, refused_by, too_long, is_last}
+use Rattle.ibos_run.specs.Readings.{Reading, reading_by, reading_from, refused_by, is_last}
+use Rattle.ibos_run.specs.Refusals.{too_long}
 use Rattle.ibos_run.specs.declared.script.Next.{Next}
 use Rattle.ibos_run.specs.Script.{Leads}
 

@@ -3,7 +3,7 @@ use Rattle.std.proofs.Common.{◌≡◌, ℕ, ◌+◌, List, [], ◌∷◌, ◌+
 use Rattle.std.specs.Prelude.{if◌then◌else◌}
 use Rattle.ibos_kinds.specs.declared.act.Act.{Act}
 use Rattle.ibos_kinds.specs.declared.outcome.Outcome.{Outcome}
-use Rattle.ibos_script.specs.Printed.{outcome_text}
+use Rattle.ibos_outcome.specs.Printed.{outcome_text}
 use Rattle.ibos_origin.specs.Hosts.{HostTable}
 use Rattle.ibos_nic.specs.declared.log.LogEntry.{LogEntry}
 use Rattle.ibos_nic.specs.Registers.{Registers}
@@ -15,7 +15,9 @@ use Rattle.ibos_model.specs.Rings.{register}
 use Rattle.ibos_model.specs.Runs.{Follows, GoesOn, IsRun, IsWritten, entry_of, left_by, run, run_from, written_by}
 use Rattle.ibos_model.specs.Text.{text_of}
 use Rattle.ibos_model.specs.Laws.{AreFrameFronts, AreFronts, AreSentFronts, AreSentInTurn, DoGoOn}
-use Rattle.ibos_model.specs.Inputs.{Refusal, Reading, onto_acts, journal_of, last_line, session_text}
+use Rattle.ibos_run.specs.Inputs.{journal_of, last_line, session_text}
+use Rattle.ibos_run.specs.Readings.{Reading, onto_acts}
+use Rattle.ibos_run.specs.Refusals.{Refusal}
 use Rattle.ibos_kernel.specs.Tables.{Tables}
 use Rattle.ibos_kernel.specs.Standing.{Agrees, AreTogether, Stands, entry}
 use Rattle.ibos_run.specs.Session.{IsCut, IsMade, IsServed, IsStopped}

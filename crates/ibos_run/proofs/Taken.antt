@@ -4,7 +4,7 @@ use Rattle.std.specs.Prelude.{OnErr}
 use Rattle.std.proofs.Math.Seq.{take-add}
 use Rattle.std.proofs.lemmas.List.{take-append-drop}
 use Rattle.ibos_kinds.specs.Outside.{taken_after}
-use Rattle.ibos_script.specs.Printed.{IsCutShort}
+use Rattle.ibos_outcome.specs.Printed.{IsCutShort}
 use Rattle.ibos_run.specs.Took.{Took, TookFront}
 
 -- what is said where a call failed

@@ -4,7 +4,9 @@ use Rattle.std.specs.List.{All}
 use Rattle.ibos_nic.specs.declared.log.LogEntry.{LogEntry}
 use Rattle.ibos_nic.specs.declared.reg.Reg.{Reg}
 use Rattle.ibos_nic.specs.Registers.{Registers, reset}
-use Rattle.ibos_model.specs.Inputs.{Input, NoForm, NoHosts, Session, journal_of}
+use Rattle.ibos_make.specs.Drill.{drill_table}
+use Rattle.ibos_run.specs.Inputs.{Input, NoForm, NoHosts, Session, Drill, journal_of}
+use Rattle.ibos_run.specs.Summaries.{drill_journal}
 use Rattle.ibos_model.specs.Journal.{Journal, frames}
 use Rattle.ibos_model.specs.Logs.{frames_in, sent_in, written_in}
 use Rattle.ibos_model.specs.Laws.{IsOfASend}
@@ -32,12 +34,14 @@ abbrev pub IsLogged : Input → List LogEntry → Type 0
 IsLogged NoForm l = l ≡ []
 IsLogged (NoHosts refusal) l = l ≡ []
 IsLogged (Session H reading) l = IsLogOf (journal_of H reading (written_in l)) l
+IsLogged (Drill seed rounds) l = IsLogOf (drill_journal seed rounds (written_in l)) l
 
 -- the log of any run
 abbrev pub IsLoggedFront : Input → List LogEntry → Type 0
 IsLoggedFront NoForm l = l ≡ []
 IsLoggedFront (NoHosts refusal) l = l ≡ []
 IsLoggedFront (Session H reading) l = IsLogFront (journal_of H reading (written_in l)) l
+IsLoggedFront (Drill seed rounds) l = IsLogFront (drill_journal seed rounds (written_in l)) l
 
 -- each frame that went out is that of a send which was accepted in the journal, and which is right
 abbrev pub AreSentRightly : Input → List LogEntry → Type 0
@@ -45,6 +49,8 @@ AreSentRightly NoForm l = Unit {0}
 AreSentRightly (NoHosts refusal) l = Unit {0}
 AreSentRightly (Session H reading) l =
     All (IsOfASend H (journal_of H reading (written_in l))) (sent_in l)
+AreSentRightly (Drill seed rounds) l =
+    All (IsOfASend drill_table (drill_journal seed rounds (written_in l))) (sent_in l)
 
 -- where the inputs were read to their end, the registers are those of their journal
 abbrev pub AreRegistersOf : Input → Registers → List (List ℕ) → Type 0
@@ -52,3 +58,5 @@ AreRegistersOf NoForm f W = Unit {0}
 AreRegistersOf (NoHosts refusal) f W = Unit {0}
 AreRegistersOf (Session H reading) f W = reading.refused ≡ None
     → AreRegisters H.local (network (journal_of H reading W)) f
+AreRegistersOf (Drill seed rounds) f W =
+    AreRegisters drill_table.local (network (drill_journal seed rounds W)) f

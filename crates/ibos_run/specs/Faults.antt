@@ -5,7 +5,8 @@ use Rattle.ibos_run.specs.declared.fault.Fault.TheVariants.{Read, Write, Memory}
 use Rattle.ibos_run.specs.declared.fault.Status.{Status}
 use Rattle.ibos_run.specs.declared.fault.Status.TheVariants.{Done, Usage, Refused, ReadFault}
 use Rattle.ibos_run.specs.declared.fault.Status.TheVariants.{WriteFault, Memory as NoMemory}
-use Rattle.ibos_model.specs.Inputs.{Input, NoForm, NoHosts, Session, Refusal}
+use Rattle.ibos_run.specs.Inputs.{Input, NoForm, NoHosts, Session, Drill}
+use Rattle.ibos_run.specs.Refusals.{Refusal}
 
 -- a fault of reading comes only where P, a fault of writing only where Q; out of memory a run may
 -- be at any time
@@ -52,3 +53,4 @@ abbrev pub status_for : Input → Status
 status_for NoForm = Usage
 status_for (NoHosts refusal) = Refused
 status_for (Session H reading) = ending reading.refused
+status_for (Drill seed rounds) = Done

@@ -1,3 +1,8 @@
+pub mod Words
+pub mod Refusals
+pub mod Readings
+pub mod Summaries
+pub mod Inputs
 pub mod Took
 pub mod Device
 pub mod Session

@@ -2,7 +2,8 @@
 use Rattle.std.specs.Prelude.{◌≡◌, ◌≢◌, [], Option, Some, None}
 use Rattle.ibos_kinds.specs.Limits.{Fits}
 use Rattle.ibos_script.specs.declared.fault.LineFault.TheVariants.{Memory}
-use Rattle.ibos_model.specs.Inputs.{Refusal, Reading, onto_acts, line_refusal, too_long}
+use Rattle.ibos_run.specs.Readings.{Reading, onto_acts}
+use Rattle.ibos_run.specs.Refusals.{Refusal, line_refusal, too_long}
 use Rattle.ibos_run.specs.declared.script.End.{End}
 use Rattle.ibos_run.specs.declared.script.End.TheVariants.{Whole, TooLong, Refused}
 use Rattle.ibos_run.specs.declared.script.Next.{Next}

@@ -1,11 +1,12 @@
 -- What a session has made, and how it is cut off. W is what the device wrote, by its log.
 use Rattle.std.specs.Prelude.{◌≡◌, ℕ, ◌+◌, List, [], ◌∷◌, ◌++◌, length, Option}
 use Rattle.ibos_kinds.specs.declared.act.Act.{Act}
-use Rattle.ibos_script.specs.Printed.{outcome_text}
+use Rattle.ibos_outcome.specs.Printed.{outcome_text}
 use Rattle.ibos_origin.specs.Hosts.{HostTable}
 use Rattle.ibos_nic.specs.declared.log.LogEntry.{LogEntry}
 use Rattle.ibos_nic.specs.Registers.{Registers}
-use Rattle.ibos_model.specs.Inputs.{Input, Reading, journal_of, session_text, wanted}
+use Rattle.ibos_run.specs.Inputs.{Input, journal_of, session_text, wanted}
+use Rattle.ibos_run.specs.Readings.{Reading}
 use Rattle.ibos_model.specs.Journal.{Journal, frame_of}
 use Rattle.ibos_model.specs.Logs.{Loses, got_for, log_after, written_in}
 use Rattle.ibos_model.specs.Network.{network, next_frame}

@@ -3,8 +3,9 @@ ghost use Rattle.std.specs.Prelude.{◌≡◌, ◌≤◌, ◌<◌, ◌+◌, ◌^
 ghost use Rattle.std.specs.Prelude.{MatchOption, if◌then◌else◌};
 ghost use Rattle.ibos_script.specs.Lines.{line_in};
 ghost use Rattle.ibos_text.specs.Lines.{lines_of};
-ghost use Rattle.ibos_model.specs.Inputs.{Reading, is_last, reading_by, reading_from, reading_of};
-ghost use Rattle.ibos_model.specs.Inputs.{refused_by, too_long};
+ghost use Rattle.ibos_run.specs.Readings.{Reading, is_last, reading_by, reading_from, reading_of};
+ghost use Rattle.ibos_run.specs.Readings.{refused_by};
+ghost use Rattle.ibos_run.specs.Refusals.{too_long};
 
 use ibos_kinds::{Act, Memory};
 use ibos_script::{Line, LineFault, read_line};
@@ -52,7 +53,7 @@ impl<'a> Script<'a> {
     ghost use Rattle.ibos_run.specs.Script.{Leads};
 
     /// The whole of a script, of which the bytes up to the limit and one more are given.
-    #[tactic(auto, unfolding(ibos_model::specs::Inputs::reading_of))]
+    #[tactic(auto, unfolding(crate::specs::Readings::reading_of))]
     pub fn new(text: &'a [u8]) -> Script<'a>
         requires { length text.now ≤ MAX_SCRIPT_LEN + 1 }
         ensures reading { result ≡ reading_of [] text.now }

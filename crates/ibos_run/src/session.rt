@@ -5,7 +5,8 @@ ghost use Rattle.ibos_kinds.specs.Limits.{Fits};
 ghost use Rattle.ibos_kinds.specs.Outside.{Rose};
 ghost use Rattle.ibos_model.specs.Journal.{Journal};
 ghost use Rattle.ibos_model.specs.Logs.{written_in};
-ghost use Rattle.ibos_model.specs.Inputs.{Session, journal_of, last_line, reading_of};
+ghost use Rattle.ibos_run.specs.Inputs.{Session, journal_of, last_line};
+ghost use Rattle.ibos_run.specs.Readings.{reading_of};
 ghost use Rattle.ibos_kernel.specs.Standing.{Agrees, AreTogether, Stands};
 ghost use Rattle.ibos_run.specs.Device.{IsReset};
 ghost use Rattle.ibos_run.specs.Faults.{IsCaused, ending};
@@ -166,7 +167,7 @@ fn make_act<N: Nic, K: Sink>(
 }
 
 // Gathers the last line, after so many acts.
-#[tactic(auto, unfolding(ibos_model::specs::Inputs::too_long))]
+#[tactic(auto, unfolding(crate::specs::Refusals::too_long))]
 fn push_last(alloc: Global, acts: u32, end: End, text: &mut Bytes) -> Result<Status, Memory>
     requires { IsOfScript end }
     ensures status { IfOk result (λ status. status ≡ ending (refusal_of end)) }

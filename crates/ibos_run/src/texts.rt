@@ -1,8 +1,9 @@
 // The lines that are no outcome's.
 ghost use Rattle.std.specs.Prelude.{◌≡◌, ◌++◌, IfOk, codes, string_bytes};
-ghost use Rattle.ibos_script.specs.Printed.{pieces_text};
+ghost use Rattle.ibos_outcome.specs.Printed.{pieces_text};
 ghost use Rattle.ibos_model.specs.Text as spec;
-ghost use Rattle.ibos_model.specs.Inputs.{Refusal, file_word, refusal_line, usage_line};
+ghost use Rattle.ibos_run.specs.Refusals.{Refusal, file_word, refusal_line};
+ghost use Rattle.ibos_run.specs.Words.{usage_line};
 ghost use Rattle.ibos_run.specs.Forms.{file_of};
 
 use ibos_kinds::{Bytes, Memory};
@@ -27,7 +28,7 @@ impl File {
 }
 
 /// The line that words are answered with that are no form.
-#[tactic(auto, unfolding(ibos_model::specs::Inputs::usage_line))]
+#[tactic(auto, unfolding(crate::specs::Words::usage_line))]
 pub fn usage() -> &'static [u8]
     ensures { result.now ≡ usage_line }
 {
@@ -43,7 +44,7 @@ pub fn end_line(alloc: Global, acts: u32) -> Result<String, AllocError>
 }
 
 /// The last line of a run that a fault of a file ended; `place` is the fault's line.
-#[tactic(auto, unfolding(ibos_model::specs::Inputs::refusal_line))]
+#[tactic(auto, unfolding(crate::specs::Refusals::refusal_line))]
 pub fn refusal(
     alloc: Global,
     file: File,

@@ -16,9 +16,10 @@ use Rattle.ibos_script.specs.declared.fault.LineFault.{LineFault}
 use Rattle.ibos_script.specs.declared.fault.LineFault.TheVariants.{Long, Byte, Word, Count, Number}
 use Rattle.ibos_script.specs.declared.lines.Line.{Line}
 use Rattle.ibos_script.specs.declared.lines.Line.TheVariants.{Act as ActLine}
-use Rattle.ibos_script.specs.Fields.{instance_in}
+use Rattle.ibos_fields.specs.Fields.{instance_in}
 use Rattle.ibos_script.specs.Forms.{Fields, read_field, nothing, rest, tab, number, flow, buffer, name, hex_number, key, instance, word, hex, form, form_of}
-use Rattle.ibos_script.specs.Lines.{user_in, bell_in, posted, dev_in, wire_in, store_in, cookie_in, page_in, flow_in, net_in, named_in, act_in, party_in, is_printable, is_comment, some_line, line_in}
+use Rattle.ibos_fields.specs.Printable.{is_printable}
+use Rattle.ibos_script.specs.Lines.{user_in, bell_in, posted, dev_in, wire_in, store_in, cookie_in, page_in, flow_in, net_in, named_in, act_in, party_in, is_comment, some_line, line_in}
 
 abbrev IsActorOf : Option Party → Result Line LineFault → Type 0
 IsActorOf p (Ok (ActLine act)) = p ≡ Some (actor act)

@@ -9,9 +9,10 @@ use Rattle.std.proofs.lemmas.Bool.{and_parts, cases_lt, eqb-true}
 use Rattle.std.proofs.lemmas.Bool.Decides.{nat_tests}
 use Rattle.hex.specs.Hex.{encode_lower, encode_with, lower_digits}
 use Rattle.hex.proofs.HexLemmas.{length-encode_with}
-use Rattle.ibos_script.specs.Fields.{hex_digits_in, hex_number_in}
-use Rattle.ibos_script.specs.Printed.{value_text}
-use Rattle.ibos_script.specs.Spelled.{hex_number_text, is_graph, IsWord}
+use Rattle.ibos_fields.specs.Fields.{hex_digits_in, hex_number_in}
+use Rattle.ibos_outcome.specs.Printed.{value_text}
+use Rattle.ibos_fields.specs.Printable.{is_graph, IsWord}
+use Rattle.ibos_script.specs.Spelled.{hex_number_text}
 
 -- ---- one digit
 

@@ -1,8 +1,4 @@
-mod CutTexts
-mod ToldLines
-mod HexTexts
 mod Actors
-mod Words
-mod FieldWords
+mod KeyWords
 mod HexNumbers
 mod SpelledActs

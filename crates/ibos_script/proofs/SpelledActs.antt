@@ -19,13 +19,16 @@ use Rattle.ibos_script.specs.declared.fault.LineFault.{LineFault}
 use Rattle.ibos_script.specs.declared.fault.LineFault.TheVariants.{Long, Byte, Number, Hex}
 use Rattle.ibos_script.specs.declared.lines.Line.{Line}
 use Rattle.ibos_script.specs.declared.lines.Line.TheVariants.{Act as ActLine}
-use Rattle.ibos_script.specs.Fields.{number_in, hex_number_in, instance_in, key_in, hex_in}
+use Rattle.ibos_fields.specs.Fields.{number_in, hex_number_in, instance_in, key_in, hex_in}
 use Rattle.ibos_script.specs.Forms.{Fields, nothing, rest, field, tab, number, flow, buffer, name, hex_number, key, instance, word, hex, form, form_of}
-use Rattle.ibos_script.specs.Lines.{user_in, dev_in, bell_in, posted, wire_in, store_in, cookie_in, page_in, flow_in, net_in, act_in, is_printable, is_comment, some_line, line_in}
-use Rattle.ibos_script.specs.Printed.{instance_text, hex_text}
-use Rattle.ibos_script.specs.Spelled.{key_text, side_text, hex_number_text, spelled, IsRest, is_graph, IsWord, IsSpellable}
-use Rattle.ibos_script.proofs.Words.{first_is, after_is, has_is, first_spaced, after_spaced, has_spaced, has_none, word_printable, spaced_printable}
-use Rattle.ibos_script.proofs.FieldWords.{number_word, number_read, instance_word, instance_read, hex_word, hex_read, key_word, key_read}
+use Rattle.ibos_fields.specs.Printable.{is_printable}
+use Rattle.ibos_script.specs.Lines.{user_in, dev_in, bell_in, posted, wire_in, store_in, cookie_in, page_in, flow_in, net_in, act_in, is_comment, some_line, line_in}
+use Rattle.ibos_outcome.specs.Printed.{instance_text, hex_text}
+use Rattle.ibos_fields.specs.Printable.{is_graph, IsWord}
+use Rattle.ibos_script.specs.Spelled.{key_text, side_text, hex_number_text, spelled, IsRest, IsSpellable}
+use Rattle.ibos_fields.proofs.Words.{first_is, after_is, has_is, first_spaced, after_spaced, has_spaced, has_none, word_printable, spaced_printable}
+use Rattle.ibos_outcome.proofs.FieldWords.{number_word, number_read, instance_word, instance_read, hex_word, hex_read}
+use Rattle.ibos_script.proofs.KeyWords.{key_word, key_read}
 use Rattle.ibos_script.proofs.HexNumbers.{hex_number_word, hex_number_read}
 
 -- ---- fields

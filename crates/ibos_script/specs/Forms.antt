@@ -10,7 +10,7 @@ use Rattle.ibos_script.specs.declared.fault.LineFault.TheVariants.{Count, Number
 use Rattle.ibos_script.specs.declared.lines.Line.{Line}
 use Rattle.ibos_script.specs.declared.lines.Line.TheVariants.{Act as ActLine}
 use Rattle.ibos_text.specs.Words.{after_spaces, first_word, after_word, has_word}
-use Rattle.ibos_script.specs.Fields.{number_in, hex_number_in, instance_in, key_in, hex_in}
+use Rattle.ibos_fields.specs.Fields.{number_in, hex_number_in, instance_in, key_in, hex_in}
 
 -- The fields that an A wants to be an act.
 pub record Fields (A : Type 0) : Type 0 where

@@ -2,5 +2,4 @@ pub mod Fields
 pub mod Faults
 pub mod Forms
 pub mod Lines
-pub mod Printed
 pub mod Spelled

@@ -20,17 +20,19 @@ use Rattle.ibos_kinds.specs.declared.act.Act.TheVariants.{Put, Ask, StoreAnswer,
 use Rattle.ibos_kinds.specs.declared.act.Act.TheVariants.{StoreLose}
 use Rattle.ibos_kinds.specs.Limits.{Fits}
 use Rattle.ibos_script.specs.declared.fault.LineFault.{LineFault}
-use Rattle.ibos_script.specs.declared.fault.LineFault.TheVariants.{Long, Byte, Word}
+use Rattle.ibos_script.specs.declared.fault.LineFault.TheVariants.{Long, Byte, Word, Count}
 use Rattle.ibos_script.specs.declared.lines.Line.{Line}
-use Rattle.ibos_script.specs.declared.lines.Line.TheVariants.{Act as ActLine}
+use Rattle.ibos_script.specs.declared.lines.Line.TheVariants.{Act as ActLine, NextFrame}
 use Rattle.ibos_text.specs.Words.{first_word, after_word, has_word, is_word}
-use Rattle.ibos_script.specs.Fields.{instance_in}
+use Rattle.ibos_fields.specs.Fields.{instance_in}
+use Rattle.ibos_fields.specs.Printable.{is_printable}
 use Rattle.ibos_script.specs.Forms.{nothing, rest, tab, number, flow, buffer, name, hex_number}
 use Rattle.ibos_script.specs.Forms.{key, instance, word, hex, form, form_of}
 
 -- the act that a line says is in its ranges
 abbrev pub LineFits : Line → Type 0
 LineFits (ActLine act) = Fits act
+LineFits NextFrame = Unit {0}
 
 -- behind `user`
 unfoldable pub user_in : List ℕ → List ℕ → Result Line LineFault
@@ -65,10 +67,15 @@ dev_in command line =
     else if is_word (codes "bell") command then bell_in (first_word line) (after_word line)
     else Err Word
 
+-- behind `wire next`
+abbrev pub next_frame : List ℕ → Result Line LineFault
+next_frame line = if has_word line then Err Count else Ok NextFrame
+
 -- behind `wire`
 unfoldable pub wire_in : List ℕ → List ℕ → Result Line LineFault
 wire_in command line =
     if is_word (codes "in") command then form (hex nothing) WireIn line
+    else if is_word (codes "next") command then next_frame line
     else if is_word (codes "out") command then form nothing WireOut line
     else Err Word
 
@@ -150,9 +157,6 @@ party_in line =
     else if is_word (codes "page") (first_word line) || is_word (codes "net") (first_word line)
     then option_map PageParty (instance_in (first_word (after_word line)))
     else None
-
-abbrev pub is_printable : ℕ → Bool
-is_printable b = nat_le 32 b && nat_le b 126
 
 -- a line begins with `#`
 abbrev pub is_comment : List ℕ → Bool

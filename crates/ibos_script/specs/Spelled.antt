@@ -18,8 +18,8 @@ use Rattle.ibos_kinds.specs.declared.names.Proto.TheVariants.{Tcp, Udp}
 use Rattle.ibos_kinds.specs.declared.names.Side.{Side}
 use Rattle.ibos_kinds.specs.declared.names.Side.TheVariants.{Page, Net}
 use Rattle.ibos_text.specs.Words.{after_spaces}
-use Rattle.ibos_script.specs.Lines.{is_printable}
-use Rattle.ibos_script.specs.Printed.{instance_text, hex_text, value_text}
+use Rattle.ibos_fields.specs.Printable.{IsWord, is_printable}
+use Rattle.ibos_outcome.specs.Printed.{instance_text, hex_text, value_text}
 
 -- words with a space behind each, and then the last word or the rest of the line
 abbrev pub spaced : List (List ℕ) → List ℕ → List ℕ
@@ -90,15 +90,6 @@ spelled (StoreLose origin key version) = spaced (codes "store" ∷ codes "lose" 
 -- the rest of a line: printable, and no space first
 abbrev pub IsRest : List ℕ → Type 0
 IsRest text = (list_all is_printable text ≡ true) × (after_spaces text ≡ text)
-
--- printable, and no space
-abbrev pub is_graph : ℕ → Bool
-is_graph b = nat_le 33 b && nat_le b 126
-
--- one word of a line
-pub record IsWord (word : List ℕ) : Type 0 where
-  pub graph : list_all is_graph word ≡ true
-  pub some : 0 < length word
 
 -- the fields have the values of their types, and can stand in a line
 abbrev pub IsSpellable : Act → Type 0

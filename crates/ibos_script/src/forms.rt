@@ -11,11 +11,11 @@ ghost use Rattle.ibos_text.specs.Words.{after_spaces, first_word, after_word, ha
 ghost use Rattle.ibos_script.specs.Faults.{Gives};
 ghost use Rattle.ibos_script.specs.Forms.{nothing, rest, tab, number, flow, buffer, name};
 ghost use Rattle.ibos_script.specs.Forms.{hex_number, key, instance, word, hex, form, form_of};
-ghost use Rattle.ibos_script.specs.Lines.{LineFits, posted};
+ghost use Rattle.ibos_script.specs.Lines.{LineFits, next_frame, posted};
 
 use crate::fault::LineFault;
-use crate::fields::{read_hex, read_hex_number, read_instance, read_key, read_number};
 use crate::lines::Line;
+use ibos_fields::{read_hex, read_hex_number, read_instance, read_key, read_number};
 use ibos_kinds::{Act, Bytes, Handle, Memory, Proto, Side};
 use ibos_text::{next_word, skip_spaces};
 use std::alloc::Global;
@@ -496,6 +496,15 @@ pub fn read_wire_frame(alloc: Global, line: &[u8]) -> Result<Line, LineFault>
         return Err(LineFault::Hex);
     };
     Ok(Line::Act(Act::WireIn { frame }))
+}
+
+/// Nothing behind `wire next`, which is no act yet.
+pub fn read_next_frame(line: &[u8]) -> Result<Line, LineFault>
+    ensures line { Gives result (next_frame line.now) }
+    ensures fits { IfOk result LineFits }
+{
+    end_line(line)?;
+    Ok(Line::NextFrame)
 }
 
 /// Nothing behind `wire out`.

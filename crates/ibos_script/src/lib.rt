@@ -1,17 +1,15 @@
-//! The text of a session: the lines of a script, and the lines that an outcome prints.
+//! The text of a session: the lines of a script, and with them the lines that an outcome prints.
 #![tactic(auto)]
 
 mod fault;
-mod fields;
 mod forms;
 mod laws;
 mod lines;
-mod printed;
 
 pub use fault::LineFault;
 pub use laws::{lines_name_their_actor, spelled_acts_are_read};
+pub use ibos_outcome::write_outcome;
 pub use lines::{Line, read_line};
-pub use printed::write_outcome;
 
 #[cfg(test)]
 mod tests;

@@ -5,12 +5,13 @@ ghost use Rattle.ibos_text.specs.Words.{first_word, after_word};
 ghost use Rattle.ibos_script.specs.Faults.{Gives};
 ghost use Rattle.ibos_script.specs.Lines.{LineFits, line_in, act_in, user_in, page_in, net_in};
 ghost use Rattle.ibos_script.specs.Lines.{cookie_in, flow_in, dev_in, bell_in, wire_in, store_in};
+ghost use Rattle.ibos_fields.specs.Printable as printable;
 ghost use Rattle.ibos_script.specs.Lines as spec;
 
 use crate::fault::LineFault;
 use crate::forms::{
     read_ask, read_bind, read_click, read_close, read_cookie_get, read_cookie_set, read_done,
-    read_draw, read_fill, read_go, read_look, read_open, read_press, read_put, read_receive_bell,
+    read_draw, read_fill, read_go, read_look, read_next_frame, read_open, read_press, read_put, read_receive_bell,
     read_receive_post, read_register_read, read_register_write, read_store_answer, read_store_lose,
     read_store_none, read_submit, read_switch, read_transmit_bell, read_transmit_post, read_unbind,
     read_wire_frame, read_wire_room,
@@ -27,9 +28,12 @@ const MAX_LINE: usize = 8192;
 pub enum Line {
     /// One event of one actor.
     Act(Act),
+    /// The next frame of the capture comes from the wire.
+    NextFrame,
 }
 
-/// Reads a line of a script, given without its end: an act, or None for a comment or a blank line.
+/// Reads a line of a script, given without its end: an act, that the next frame of the capture
+/// comes, or None for a comment or a blank line.
 ///
 /// | Line | Act |
 /// |---|---|
@@ -50,6 +54,7 @@ pub enum Line {
 /// | `dev rx SLOT NAME TURN`, `dev bell rx` | `RxPost`, `RxBell` |
 /// | `dev tx SLOT SEND`, `dev bell tx` | `TxPost`, `TxBell` |
 /// | `wire in HEX`, `wire out` | `WireIn`, `WireOut` |
+/// | `wire next` | no act, but `NextFrame` |
 ///
 /// T (below 64), N (below 32), I (below 16), B (below 4), NAME (below 256), and ROW, COL, HEIGHT,
 /// WIDTH, PLACE, LEN, R, V, SLOT, TURN and SEND (below 2^32) are decimal, in at most ten digits. REG
@@ -79,7 +84,7 @@ pub fn read_line(alloc: Global, line: &[u8]) -> Result<Option<Line>, LineFault>
 
 // All bytes are looked at, wherever the first wrong one stands, so that many are compared at once.
 fn is_printable(line: &[u8]) -> bool
-    ensures { result ≡ list_all spec.is_printable line.now }
+    ensures { result ≡ list_all printable.is_printable line.now }
 {
     let mut all = true;
     for b in line {
@@ -193,6 +198,9 @@ fn read_wire(alloc: Global, command: &[u8], line: &[u8]) -> Result<Line, LineFau
 {
     if command == b"in".as_slice() {
         return read_wire_frame(alloc, line);
+    }
+    if command == b"next".as_slice() {
+        return read_next_frame(line);
     }
     if command == b"out".as_slice() {
         return read_wire_room(line);

@@ -1,5 +1,5 @@
 use Rattle.std.proofs.Common.{◌≡◌}
-use Rattle.ibos_model.specs.Inputs.{Input}
+use Rattle.ibos_run.specs.Inputs.{Input}
 use Rattle.ibos_run.specs.Faults.{status_for}
 use Rattle.ibos_run.specs.Session.{IsBroken, IsTold}
 use Rattle.ibos_run.proofs.Ends.{untouched_if}

@@ -1,6 +1,6 @@
 use Rattle.std.proofs.Common.{sym, ◌∙◌, ap}
 use Rattle.std.specs.Option.{option_map}
-use Rattle.ibos_model.specs.Inputs.{input_by}
+use Rattle.ibos_run.specs.Inputs.{input_by}
 use Rattle.ibos_run.specs.Forms.{form_of}
 use Rattle.ibos_run.proofs.Ends.{broken_right, told_right}
 use Rattle.ibos_run.proofs.run_words.run.Goals as goal

@@ -1,6 +1,6 @@
 use Rattle.std.proofs.Common.{◌≡◌, ◌+◌, arith, length, refl, subst}
 use Rattle.ibos_kinds.specs.declared.outcome.Outcome.{Outcome}
-use Rattle.ibos_script.specs.Printed.{IsCutShort, outcome_text}
+use Rattle.ibos_outcome.specs.Printed.{IsCutShort, outcome_text}
 use Rattle.ibos_model.specs.Journal.{Journal}
 use Rattle.ibos_model.specs.Outcomes.{out}
 use Rattle.ibos_kernel.specs.Standing.{Agrees, Stands}

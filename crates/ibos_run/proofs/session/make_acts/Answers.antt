@@ -1,7 +1,7 @@
 use Rattle.std.proofs.Common.{[], arith, ap, length, subst}
 use Rattle.ibos_run.specs.declared.script.Next.{Next}
 use Rattle.ibos_run.specs.Script.{Leads}
-use Rattle.ibos_model.specs.Inputs.{Reading}
+use Rattle.ibos_run.specs.Readings.{Reading}
 use Rattle.ibos_run.proofs.Sessions.{agrees_there, cut_stopped, next_serving, over, paused, start_serving}
 use Rattle.ibos_run.proofs.Taken.{on_err}
 use Rattle.ibos_run.proofs.session.make_acts.Goals as goal

@@ -1,5 +1,5 @@
 use Rattle.std.proofs.Common.{List, ℕ, ◌∙◌, subst, sym}
-use Rattle.ibos_model.specs.Inputs.{Session}
+use Rattle.ibos_run.specs.Inputs.{Session}
 use Rattle.ibos_run.specs.Script.{refusal_of}
 use Rattle.ibos_run.specs.Session.{IsBroken}
 use Rattle.ibos_run.proofs.Ends.{told, unhanded, with_last, without_last}

@@ -1,6 +1,6 @@
 use Rattle.std.proofs.Common.{◌+◌, List, [], ℕ, arith}
 use Rattle.ibos_text.specs.Lines.{lines_of}
-use Rattle.ibos_model.specs.Inputs.{Reading, reading_from}
+use Rattle.ibos_run.specs.Readings.{Reading, reading_from}
 use Rattle.ibos_run.proofs.Readings.{read_first, read_none, found_next, found_none}
 use Rattle.ibos_run.proofs.script.Script.next.Goals as goal
 

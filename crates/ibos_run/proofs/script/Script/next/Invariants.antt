@@ -1,6 +1,6 @@
 use Rattle.std.proofs.Common.{◌≡◌, ◌+◌, ◌<◌, ◌^◌, [], length}
 use Rattle.ibos_text.specs.Lines.{lines_of}
-use Rattle.ibos_model.specs.Inputs.{reading_from}
+use Rattle.ibos_run.specs.Readings.{reading_from}
 use Rattle.ibos_run.proofs.script.Script.next.Given as goal
 
 -- the lines so far asked for nothing

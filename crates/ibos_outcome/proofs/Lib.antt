@@ -1,0 +1,4 @@
+mod CutTexts
+mod ToldLines
+mod HexTexts
+pub mod FieldWords

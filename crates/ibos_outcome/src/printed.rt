@@ -1,0 +1,616 @@
+// The text of an outcome.
+ghost use Rattle.std.specs.Prelude.{◌≡◌, ◌≤◌, ◌++◌, [], ◌∷◌, length, IfOk, OnOk, OnErr, codes};
+ghost use Rattle.std.specs.Prelude.{decimal};
+ghost use Rattle.hex.specs.Hex.{encode_lower};
+ghost use Rattle.ibos_outcome.specs.Printed as spec;
+ghost use Rattle.ibos_outcome.specs.Printed.{Appends, IsCutShort, outcome_text, line_text};
+ghost use Rattle.ibos_outcome.specs.Printed.{head_text, item_text, items_text, pieces_text};
+ghost use Rattle.ibos_outcome.specs.Printed.{addr_text, hex_text, value_text, verdict_text};
+
+use ibos_kinds::{Bytes, Endpoint, Handle, Head, Instance, Item, Memory, Outcome, Verdict};
+use itoa::Buffer;
+use std::alloc::Global;
+
+// So many bytes are written in hexadecimal at once.
+const PIECE: usize = 128;
+
+/// Appends the lines of an outcome, each with the act's number: one for its head, and one for each
+/// item. Where memory runs out a front of these lines is appended.
+#[tactic(auto, unfolding(crate::specs::Printed::outcome_text))]
+pub fn write_outcome(
+    alloc: Global,
+    number: u64,
+    outcome: &Outcome,
+    text: &mut Bytes,
+) -> Result<(), Memory>
+    ensures ok { OnOk result (text.new ≡ text.old ++ outcome_text number outcome.now) }
+    ensures err { OnErr result (IsCutShort text.old text.new (outcome_text number outcome.now)) }
+{
+    let mut buffer = Buffer::new();
+    let digits = buffer.format(number).as_bytes();
+    write_head(digits, outcome.head, text)?;
+    write_items(alloc, digits, outcome.items.as_slice(), text)?;
+    Ok(())
+}
+
+fn write_items(alloc: Global, digits: &[u8], items: &[Item], text: &mut Bytes) -> Result<(), Memory>
+    ensures { Appends result text.old text.new (items_text digits.now items.now) }
+{
+    for item in items {
+        write_item(alloc, digits, item, text)?;
+    }
+    Ok(())
+}
+
+#[tactic(auto, unfolding(crate::specs::Printed::line_text, crate::specs::Printed::head_text))]
+fn write_head(digits: &[u8], head: Head, text: &mut Bytes) -> Result<(), Memory>
+    ensures { Appends result text.old text.new (line_text digits.now (head_text head)) }
+{
+    match head {
+        Head::Ok => push_pieces(text, &[digits, b" ok\n"]),
+        Head::Denied(rule) => {
+            let (code, name) = (rule.code().as_bytes(), rule.name().as_bytes());
+            write_two(digits, b"denied ", code, name, text)
+        }
+    }
+}
+
+#[tactic(auto, unfolding(crate::specs::Printed::line_text, crate::specs::Printed::item_text))]
+fn write_item(alloc: Global, digits: &[u8], item: &Item, text: &mut Bytes) -> Result<(), Memory>
+    ensures { Appends result text.old text.new (line_text digits.now (item_text item.now)) }
+{
+    match item {
+        Item::Opened { who, url } => write_told(digits, *who, b" opened ", url.as_slice(), text),
+        Item::Moved { who, url } => write_told(digits, *who, b" at ", url.as_slice(), text),
+        Item::Ended { who } => write_told(digits, *who, b" ended", b"", text),
+        Item::KeyTo { who, byte } => write_told(digits, *who, b" key ", &hex_pair(*byte), text),
+        Item::ClickTo { who, row, col } => write_click(digits, *who, *row, *col, text),
+        Item::Cookies { who, text: cookies } => {
+            let cookies = or_dash(cookies.as_slice());
+            write_told(digits, *who, b" cookies ", cookies, text)
+        }
+        Item::RowIs { row, text: cells } => write_row(digits, *row, cells.as_slice(), text),
+        Item::FlowIs {
+            who,
+            flow,
+            port,
+            remote,
+        } => { write_flow(alloc, digits, *who, *flow, *port, *remote, text) }
+        Item::Arrived { who, flow, bytes } => {
+            write_frame(digits, *who, *flow, bytes.as_slice(), text)
+        }
+        Item::ValueIs { value } => write_one(digits, b"dev value ", &value_digits(*value), text),
+        Item::LentIs { handle } => write_lent(digits, *handle, text),
+        Item::VerdictIs { verdict } => write_one(digits, b"wire ", verdict_name(*verdict), text),
+        Item::Dropped { rule } => {
+            let (code, name) = (rule.code().as_bytes(), rule.name().as_bytes());
+            write_two(digits, b"log drop ", code, name, text)
+        }
+        Item::Home { who, buffer } => {
+            write_told_number(digits, *who, b" home ", u32::from(*buffer), text)
+        }
+        Item::SendIs { send } => write_number(digits, b"dev send ", *send, text),
+        Item::Returned { send } => write_number(digits, b"dev returned ", *send, text),
+        Item::SentIs { send } => write_number(digits, b"wire sent ", *send, text),
+        Item::Idle => write_one(digits, b"wire ", b"idle", text),
+        Item::Accepted { send, who, bytes } => {
+            write_accepted(digits, *send, *who, bytes.as_slice(), text)
+        }
+        Item::VersionIs { who, version } => {
+            write_told_number(digits, *who, b" version ", *version, text)
+        }
+        Item::RequestIs { who, request } => {
+            write_told_number(digits, *who, b" request ", *request, text)
+        }
+        Item::Object {
+            who,
+            request,
+            version,
+            bytes,
+        } => { write_object(digits, *who, *request, *version, bytes.as_slice(), text) }
+        Item::NoObject { who, request } => {
+            write_told_number(digits, *who, b" none ", *request, text)
+        }
+        Item::StorePut {
+            origin,
+            key,
+            version,
+            len,
+        } => {
+            let (origin, key) = (origin.as_slice(), key.as_slice());
+            write_put(digits, origin, key, *version, *len, text)
+        }
+        Item::StoreAsk {
+            who,
+            request,
+            origin,
+            key,
+        } => {
+            let (origin, key) = (origin.as_slice(), key.as_slice());
+            write_ask(digits, *who, *request, origin, key, text)
+        }
+    }
+}
+
+// A line to an instance.
+#[tactic(auto, unfolding(crate::specs::Printed::line_text, crate::specs::Printed::instance_text))]
+fn write_told(
+    digits: &[u8],
+    who: Instance,
+    word: &[u8],
+    told: &[u8],
+    text: &mut Bytes,
+) -> Result<(), Memory>
+    ensures { Appends result text.old text.new
+        (line_text digits.now (spec.instance_text who ++ word.now ++ told.now)) }
+{
+    let mut tab = Buffer::new();
+    let mut ord = Buffer::new();
+    let tab = tab.format(who.tab).as_bytes();
+    let ord = ord.format(who.ord).as_bytes();
+    write_parts(digits, tab, ord, word, told, text)
+}
+
+#[tactic(auto, unfolding(crate::specs::Printed::line_text))]
+fn write_parts<'a>(
+    digits: &'a [u8],
+    tab: &'a [u8],
+    ord: &'a [u8],
+    word: &'a [u8],
+    told: &'a [u8],
+    text: &mut Bytes,
+) -> Result<(), Memory>
+    ensures { Appends result text.old text.new
+        (line_text digits.now ((tab.now ++ codes "." ++ ord.now) ++ word.now ++ told.now)) }
+{
+    push_pieces(text, &[digits, b" ", tab, b".", ord, word, told, b"\n"])
+}
+
+// A byte as two hexadecimal digits.
+fn hex_pair(byte: u8) -> [u8; 2]
+    ensures { result ≡ encode_lower (byte ∷ []) }
+{
+    let mut digits = [0u8; 2];
+    let Ok(()) = hex::encode_to_slice([byte].as_slice(), &mut digits) else {
+        unreachable!()
+    };
+    digits
+}
+
+// A register's value as eight hexadecimal digits.
+#[tactic(auto, unfolding(crate::specs::Printed::value_text))]
+fn value_digits(value: u32) -> [u8; 8]
+    ensures { result ≡ value_text value }
+{
+    let mut digits = [0u8; 8];
+    let Ok(()) = hex::encode_to_slice(value.to_be_bytes().as_slice(), &mut digits) else {
+        unreachable!()
+    };
+    digits
+}
+
+fn verdict_name(verdict: Verdict) -> &'static [u8]
+    ensures { result.now ≡ verdict_text verdict }
+{
+    match verdict {
+        Verdict::Filtered => b"filtered",
+        Verdict::Missed => b"missed",
+        Verdict::Heard => b"heard",
+    }
+}
+
+// A click on a cell of an instance's content.
+fn write_click(
+    digits: &[u8],
+    who: Instance,
+    row: u8,
+    col: u8,
+    text: &mut Bytes,
+) -> Result<(), Memory>
+    ensures { Appends result text.old text.new
+        (line_text digits.now (spec.instance_text who ++ codes " click "
+        ++ decimal row ++ codes " " ++ decimal col)) }
+{
+    let mut rows = Buffer::new();
+    let mut cols = Buffer::new();
+    let row = rows.format(row).as_bytes();
+    let col = cols.format(col).as_bytes();
+    write_told_two(digits, who, b" click ", row, col, text)
+}
+
+// A flow of an instance, with its port here and its other end.
+fn write_flow(
+    alloc: Global,
+    digits: &[u8],
+    who: Instance,
+    flow: u8,
+    port: u16,
+    remote: Endpoint,
+    text: &mut Bytes,
+) -> Result<(), Memory>
+    ensures { Appends result text.old text.new
+        (line_text digits.now (spec.instance_text who ++ codes " flow " ++ decimal flow
+        ++ codes " " ++ decimal port ++ codes " " ++ addr_text remote.addr
+        ++ codes " " ++ decimal remote.port)) }
+{
+    let mut flows = Buffer::new();
+    let flow = flows.format(flow).as_bytes();
+    let ends = ends_of(alloc, port, remote)?;
+    write_told_two(digits, who, b" flow ", flow, ends.as_slice(), text)
+}
+
+// The ends of a flow: the port here, and address and port there.
+fn ends_of(alloc: Global, port: u16, remote: Endpoint) -> Result<Bytes, Memory>
+    ensures { IfOk result (λ ends. ends ≡ decimal port ++ codes " " ++ addr_text remote.addr
+        ++ codes " " ++ decimal remote.port) }
+{
+    let mut ports = Buffer::new();
+    let mut remotes = Buffer::new();
+    let port = ports.format(port).as_bytes();
+    let other = remotes.format(remote.port).as_bytes();
+    let addr = addr_digits(alloc, remote.addr)?;
+    joined(alloc, &[port, b" ", addr.as_slice(), b" ", other])
+}
+
+// An IPv4 address in dotted decimal.
+#[tactic(auto, unfolding(crate::specs::Printed::addr_text))]
+fn addr_digits(alloc: Global, addr: u32) -> Result<Bytes, Memory>
+    ensures { IfOk result (λ digits. digits ≡ addr_text addr) }
+{
+    let mut buffers = (Buffer::new(), Buffer::new(), Buffer::new(), Buffer::new());
+    let [a, b, c, d] = addr.to_be_bytes();
+    let a = buffers.0.format(a).as_bytes();
+    let b = buffers.1.format(b).as_bytes();
+    let c = buffers.2.format(c).as_bytes();
+    let d = buffers.3.format(d).as_bytes();
+    joined(alloc, &[a, b".", b, b".", c, b".", d])
+}
+
+// A frame for a flow of an instance.
+#[tactic(auto, unfolding(crate::specs::Printed::line_text, crate::specs::Printed::instance_text))]
+fn write_frame(
+    digits: &[u8],
+    who: Instance,
+    flow: u8,
+    bytes: &[u8],
+    text: &mut Bytes,
+) -> Result<(), Memory>
+    ensures { Appends result text.old text.new
+        (line_text digits.now (spec.instance_text who ++ codes " frame "
+        ++ decimal flow ++ codes " " ++ hex_text bytes.now)) }
+{
+    let mut buffers = (Buffer::new(), Buffer::new(), Buffer::new());
+    let tab = buffers.0.format(who.tab).as_bytes();
+    let ord = buffers.1.format(who.ord).as_bytes();
+    let flow = buffers.2.format(flow).as_bytes();
+    let front = [digits, b" ", tab, b".", ord, b" frame ", flow, b" "];
+    write_hex(&front, bytes, text)
+}
+
+// A send that was accepted, with its frame.
+#[tactic(auto, unfolding(crate::specs::Printed::line_text, crate::specs::Printed::instance_text))]
+fn write_accepted(
+    digits: &[u8],
+    send: u32,
+    who: Instance,
+    bytes: &[u8],
+    text: &mut Bytes,
+) -> Result<(), Memory>
+    ensures { Appends result text.old text.new
+        (line_text digits.now (codes "log frame " ++ decimal send ++ codes " "
+        ++ spec.instance_text who ++ codes " " ++ hex_text bytes.now)) }
+{
+    let mut buffers = (Buffer::new(), Buffer::new(), Buffer::new());
+    let send = buffers.0.format(send).as_bytes();
+    let tab = buffers.1.format(who.tab).as_bytes();
+    let ord = buffers.2.format(who.ord).as_bytes();
+    let front = [digits, b" log frame ", send, b" ", tab, b".", ord, b" "];
+    write_hex(&front, bytes, text)
+}
+
+// An object for a request of an instance.
+#[tactic(auto, unfolding(crate::specs::Printed::line_text, crate::specs::Printed::instance_text))]
+fn write_object(
+    digits: &[u8],
+    who: Instance,
+    request: u32,
+    version: u32,
+    bytes: &[u8],
+    text: &mut Bytes,
+) -> Result<(), Memory>
+    ensures { Appends result text.old text.new
+        (line_text digits.now (spec.instance_text who ++ codes " object " ++ decimal request
+        ++ codes " " ++ decimal version ++ codes " " ++ hex_text bytes.now)) }
+{
+    let mut buffers = (Buffer::new(), Buffer::new(), Buffer::new(), Buffer::new());
+    let tab = buffers.0.format(who.tab).as_bytes();
+    let ord = buffers.1.format(who.ord).as_bytes();
+    let request = buffers.2.format(request).as_bytes();
+    let version = buffers.3.format(version).as_bytes();
+    let front = [
+        digits,
+        b" ",
+        tab,
+        b".",
+        ord,
+        b" object ",
+        request,
+        b" ",
+        version,
+        b" ",
+    ];
+    write_hex(&front, bytes, text)
+}
+
+// An object that is to be stored.
+#[tactic(auto, unfolding(crate::specs::Printed::line_text))]
+fn write_put<'a>(
+    digits: &'a [u8],
+    origin: &'a [u8],
+    key: &'a [u8],
+    version: u32,
+    len: u32,
+    text: &mut Bytes,
+) -> Result<(), Memory>
+    ensures { Appends result text.old text.new
+        (line_text digits.now (codes "store put " ++ origin.now ++ codes " " ++ key.now
+        ++ codes " " ++ decimal version ++ codes " " ++ decimal len)) }
+{
+    let mut buffers = (Buffer::new(), Buffer::new());
+    let version = buffers.0.format(version).as_bytes();
+    let len = buffers.1.format(len).as_bytes();
+    let pieces = [
+        digits,
+        b" store put ",
+        origin,
+        b" ",
+        key,
+        b" ",
+        version,
+        b" ",
+        len,
+        b"\n",
+    ];
+    push_pieces(text, &pieces)
+}
+
+// A request for an object.
+#[tactic(auto, unfolding(crate::specs::Printed::line_text, crate::specs::Printed::instance_text))]
+fn write_ask<'a>(
+    digits: &'a [u8],
+    who: Instance,
+    request: u32,
+    origin: &'a [u8],
+    key: &'a [u8],
+    text: &mut Bytes,
+) -> Result<(), Memory>
+    ensures { Appends result text.old text.new
+        (line_text digits.now (codes "store ask " ++ spec.instance_text who ++ codes " "
+        ++ decimal request ++ codes " " ++ origin.now ++ codes " " ++ key.now)) }
+{
+    let mut buffers = (Buffer::new(), Buffer::new(), Buffer::new());
+    let tab = buffers.0.format(who.tab).as_bytes();
+    let ord = buffers.1.format(who.ord).as_bytes();
+    let request = buffers.2.format(request).as_bytes();
+    let pieces = [
+        digits,
+        b" store ask ",
+        tab,
+        b".",
+        ord,
+        b" ",
+        request,
+        b" ",
+        origin,
+        b" ",
+        key,
+        b"\n",
+    ];
+    push_pieces(text, &pieces)
+}
+
+// A line to an instance that ends in a number.
+fn write_told_number(
+    digits: &[u8],
+    who: Instance,
+    word: &[u8],
+    number: u32,
+    text: &mut Bytes,
+) -> Result<(), Memory>
+    ensures { Appends result text.old text.new
+        (line_text digits.now (spec.instance_text who ++ word.now ++ decimal number)) }
+{
+    let mut buffer = Buffer::new();
+    let number = buffer.format(number).as_bytes();
+    write_told(digits, who, word, number, text)
+}
+
+// A line that ends in a number.
+fn write_number(digits: &[u8], said: &[u8], number: u32, text: &mut Bytes) -> Result<(), Memory>
+    ensures { Appends result text.old text.new
+        (line_text digits.now (said.now ++ decimal number)) }
+{
+    let mut buffer = Buffer::new();
+    let number = buffer.format(number).as_bytes();
+    write_one(digits, said, number, text)
+}
+
+// A buffer that is the driver's again.
+fn write_lent(digits: &[u8], handle: Handle, text: &mut Bytes) -> Result<(), Memory>
+    ensures { Appends result text.old text.new
+        (line_text digits.now (codes "dev lent " ++ decimal handle.name ++ codes " "
+        ++ decimal handle.turn)) }
+{
+    let mut names = Buffer::new();
+    let mut turns = Buffer::new();
+    let name = names.format(handle.name).as_bytes();
+    let turn = turns.format(handle.turn).as_bytes();
+    write_two(digits, b"dev lent ", name, turn, text)
+}
+
+// A line to an instance that ends in two words.
+#[tactic(auto, unfolding(crate::specs::Printed::instance_text))]
+fn write_told_two(
+    digits: &[u8],
+    who: Instance,
+    word: &[u8],
+    first: &[u8],
+    second: &[u8],
+    text: &mut Bytes,
+) -> Result<(), Memory>
+    ensures { Appends result text.old text.new
+        (line_text digits.now (spec.instance_text who ++ word.now ++ first.now
+        ++ codes " " ++ second.now)) }
+{
+    let mut tab = Buffer::new();
+    let mut ord = Buffer::new();
+    let tab = tab.format(who.tab).as_bytes();
+    let ord = ord.format(who.ord).as_bytes();
+    write_told_parts(digits, tab, ord, word, first, second, text)
+}
+
+#[tactic(auto, unfolding(crate::specs::Printed::line_text))]
+fn write_told_parts<'a>(
+    digits: &'a [u8],
+    tab: &'a [u8],
+    ord: &'a [u8],
+    word: &'a [u8],
+    first: &'a [u8],
+    second: &'a [u8],
+    text: &mut Bytes,
+) -> Result<(), Memory>
+    ensures { Appends result text.old text.new
+        (line_text digits.now ((tab.now ++ codes "." ++ ord.now)
+        ++ word.now ++ first.now ++ codes " " ++ second.now)) }
+{
+    push_pieces(
+        text,
+        &[
+            digits, b" ", tab, b".", ord, word, first, b" ", second, b"\n",
+        ],
+    )
+}
+
+// A line that ends in one word.
+#[tactic(auto, unfolding(crate::specs::Printed::line_text))]
+fn write_one<'a>(
+    digits: &'a [u8],
+    said: &'a [u8],
+    word: &'a [u8],
+    text: &mut Bytes,
+) -> Result<(), Memory>
+    ensures { Appends result text.old text.new (line_text digits.now (said.now ++ word.now)) }
+{
+    push_pieces(text, &[digits, b" ", said, word, b"\n"])
+}
+
+// A line that ends in two words.
+#[tactic(auto, unfolding(crate::specs::Printed::line_text))]
+fn write_two<'a>(
+    digits: &'a [u8],
+    said: &'a [u8],
+    first: &'a [u8],
+    second: &'a [u8],
+    text: &mut Bytes,
+) -> Result<(), Memory>
+    ensures { Appends result text.old text.new
+        (line_text digits.now (said.now ++ first.now ++ codes " " ++ second.now)) }
+{
+    push_pieces(text, &[digits, b" ", said, first, b" ", second, b"\n"])
+}
+
+// A row of the screen.
+fn write_row(digits: &[u8], row: u8, cells: &[u8], text: &mut Bytes) -> Result<(), Memory>
+    ensures { Appends result text.old text.new
+        (line_text digits.now (codes "user row " ++ decimal row ++ codes " |" ++ cells.now)) }
+{
+    let mut number = Buffer::new();
+    let number = number.format(row).as_bytes();
+    write_cells(digits, number, cells, text)
+}
+
+#[tactic(auto, unfolding(crate::specs::Printed::line_text))]
+fn write_cells<'a>(
+    digits: &'a [u8],
+    row: &'a [u8],
+    cells: &'a [u8],
+    text: &mut Bytes,
+) -> Result<(), Memory>
+    ensures { Appends result text.old text.new
+        (line_text digits.now (codes "user row " ++ row.now ++ codes " |" ++ cells.now)) }
+{
+    push_pieces(text, &[digits, b" user row ", row, b" |", cells, b"\n"])
+}
+
+#[tactic(auto, unfolding(crate::specs::Printed::or_dash))]
+fn or_dash(text: &[u8]) -> &[u8]
+    ensures { result.now ≡ spec.or_dash text.now }
+{
+    if text.is_empty() { b"-" } else { text }
+}
+
+// The pieces of a line, and the bytes in which it ends.
+fn write_hex(front: &[&[u8]], bytes: &[u8], text: &mut Bytes) -> Result<(), Memory>
+    ensures { Appends result text.old text.new
+        (pieces_text front.now ++ hex_text bytes.now ++ codes "\n") }
+{
+    push_pieces(text, front)?;
+    push_hex(text, bytes)?;
+    push_pieces(text, &[b"\n"])
+}
+
+// Appends bytes in hexadecimal, `-` for none.
+#[tactic(auto, unfolding(crate::specs::Printed::hex_text, crate::specs::Printed::or_dash))]
+fn push_hex(text: &mut Bytes, bytes: &[u8]) -> Result<(), Memory>
+    ensures { Appends result text.old text.new (hex_text bytes.now) }
+{
+    if bytes.is_empty() {
+        return push_pieces(text, &[b"-"]);
+    }
+    push_digits(text, bytes)
+}
+
+// Appends two digits for each byte, those of a few bytes at a time.
+fn push_digits(text: &mut Bytes, bytes: &[u8]) -> Result<(), Memory>
+    ensures { Appends result text.old text.new (encode_lower bytes.now) }
+{
+    let mut at = 0;
+    while at < bytes.len() {
+        let few = PIECE.min(bytes.len() - at);
+        push_few(text, &bytes[at..at + few])?;
+        at += few;
+    }
+    Ok(())
+}
+
+fn push_few(text: &mut Bytes, bytes: &[u8]) -> Result<(), Memory>
+    requires few { length bytes.now ≤ 128 }
+    ensures ok { OnOk result (text.new ≡ text.old ++ encode_lower bytes.now) }
+    ensures err { OnErr result (text.new ≡ text.old) }
+{
+    let mut room = [0u8; 2 * PIECE];
+    let digits = &mut room[..2 * bytes.len()];
+    let Ok(()) = hex::encode_to_slice(bytes, digits) else {
+        unreachable!()
+    };
+    text.push_slice(digits)
+}
+
+// A text of pieces, one after another.
+fn joined(alloc: Global, pieces: &[&[u8]]) -> Result<Bytes, Memory>
+    ensures { IfOk result (λ text. text ≡ pieces_text pieces.now) }
+{
+    let mut text = Bytes::new(alloc);
+    push_pieces(&mut text, pieces)?;
+    Ok(text)
+}
+
+// Appends pieces, one after another.
+fn push_pieces(text: &mut Bytes, pieces: &[&[u8]]) -> Result<(), Memory>
+    ensures { Appends result text.old text.new (pieces_text pieces.now) }
+{
+    for piece in pieces {
+        text.push_slice(piece)?;
+    }
+    Ok(())
+}
