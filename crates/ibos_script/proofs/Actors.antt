@@ -15,7 +15,7 @@ use Rattle.ibos_text.specs.Words.{first_word, after_word, has_word, is_word}
 use Rattle.ibos_script.specs.declared.fault.LineFault.{LineFault}
 use Rattle.ibos_script.specs.declared.fault.LineFault.TheVariants.{Long, Byte, Word, Count, Number}
 use Rattle.ibos_script.specs.declared.lines.Line.{Line}
-use Rattle.ibos_script.specs.declared.lines.Line.TheVariants.{Act as ActLine}
+use Rattle.ibos_script.specs.declared.lines.Line.TheVariants.{Act as ActLine, NextFrame}
 use Rattle.ibos_fields.specs.Fields.{instance_in}
 use Rattle.ibos_script.specs.Forms.{Fields, read_field, nothing, rest, tab, number, flow, buffer, name, hex_number, key, instance, word, hex, form, form_of}
 use Rattle.ibos_fields.specs.Printable.{is_printable}
@@ -23,6 +23,7 @@ use Rattle.ibos_script.specs.Lines.{user_in, bell_in, posted, dev_in, wire_in, s
 
 abbrev IsActorOf : Option Party → Result Line LineFault → Type 0
 IsActorOf p (Ok (ActLine act)) = p ≡ Some (actor act)
+IsActorOf p (Ok NextFrame) = p ≡ Some Wire
 IsActorOf p (Err fault) = Unit {0}
 
 -- an act that was read is the party's
@@ -34,6 +35,9 @@ none_by p fault = record { holds = tt }
 
 act_by : (p : Option Party) (act : Act) → p ≡ Some (actor act) → By p (Ok (ActLine act))
 act_by p act is = record { holds = is }
+
+next_by : (p : Option Party) → p ≡ Some Wire → By p (Ok NextFrame)
+next_by p is = record { holds = is }
 
 field_by : {A : Type 0} (p : Option Party) (fault : LineFault) (x : Option A) (next : A → Result Line LineFault) → ((a : A) → By p (next a)) → By p (read_field fault x next)
 field_by p fault (Some a) next each = each a
@@ -91,7 +95,8 @@ unfolding wire_in
 wire_by command line =
     let p : Option Party = Some Wire in
     either p _ _ _ (form_by p (hex nothing) WireIn line (field_by p _ _ _ (λ w. act_by p _ refl)))
-    (either p _ _ _ (form_by p nothing WireOut line (act_by p _ refl)) (none_by p Word))
+    (either p _ _ _ (either p (has_word line) (Err Count) (Ok NextFrame) (none_by p Count) (next_by p refl))
+    (either p _ _ _ (form_by p nothing WireOut line (act_by p _ refl)) (none_by p Word)))
 
 store_by : (command line : List ℕ) → By (Some Store) (store_in command line)
 unfolding store_in
@@ -172,3 +177,6 @@ line_by line = by_tests (nat_lt 8192 (length line)) (list_all is_printable line)
 
 pub named_actor : (line : List ℕ) (act : Act) → line_in line ≡ Ok (Some (ActLine act)) → party_in line ≡ Some (actor act)
 named_actor line act is = let P : Result (Option Line) LineFault → Type 0 = λ r. LineBy (party_in line) r in subst P is (line_by line)
+
+pub named_next : (line : List ℕ) → line_in line ≡ Ok (Some NextFrame) → party_in line ≡ Some Wire
+named_next line is = let P : Result (Option Line) LineFault → Type 0 = λ r. LineBy (party_in line) r in subst P is (line_by line)

@@ -1,6 +1,6 @@
 -- What a line of a script says: its act, nothing, or its first fault. The words that name actor and
 -- command decide first, then how many words follow, then the fields from left to right.
-use Rattle.std.specs.Prelude.{ℕ, List, [], ◌∷◌, Bool, false, not, ◌==◌, ◌&&◌, ◌||◌, nat_lt, nat_le}
+use Rattle.std.specs.Prelude.{ℕ, List, [], ◌∷◌, Bool, false, not, ◌==◌, ◌||◌, nat_lt}
 use Rattle.std.specs.Prelude.{length, codes, Option, Some, None, option_map, Result, Ok, Err}
 use Rattle.std.specs.Prelude.{if◌then◌else◌}
 use Rattle.std.specs.List.{list_all}

@@ -1,6 +1,6 @@
 -- How an act is written as a line, word by word. Reading it gives the act back.
-use Rattle.std.specs.Prelude.{◌≡◌, ℕ, ◌^◌, ◌<◌, List, [], ◌∷◌, ◌++◌, Bool, true, ◌&&◌}
-use Rattle.std.specs.Prelude.{nat_le, length, codes, decimal}
+use Rattle.std.specs.Prelude.{◌≡◌, ℕ, ◌^◌, ◌<◌, List, [], ◌∷◌, ◌++◌, true}
+use Rattle.std.specs.Prelude.{codes, decimal}
 use Rattle.std.specs.List.{list_all}
 use Rattle.hex.specs.Hex.{IsBytes, encode_lower}
 use Rattle.ibos_kinds.specs.declared.act.Act.{Act}
