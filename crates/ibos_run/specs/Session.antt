@@ -11,6 +11,7 @@ use Rattle.ibos_model.specs.Journal.{Journal, frame_of}
 use Rattle.ibos_model.specs.Logs.{Loses, got_for, log_after, written_in}
 use Rattle.ibos_model.specs.Network.{network, next_frame}
 use Rattle.ibos_model.specs.Outcomes.{out}
+use Rattle.ibos_model.specs.Runs.{run}
 use Rattle.ibos_model.specs.Text.{text_of}
 use Rattle.ibos_net.specs.NetStanding.{AreRegisters}
 use Rattle.ibos_kernel.specs.Standing.{Agrees, Stands, entry}
@@ -39,6 +40,12 @@ pub record IsServed (H : HostTable) (reading : Reading) (first now : Option (Lis
   pub text : Took first now gathered (text_of (journal_of H reading (written_in l)))
   pub logged : IsLogOf (journal_of H reading (written_in l)) l
   pub registers : AreRegisters H.local (network (journal_of H reading (written_in l))) f
+
+-- All acts of a drill are made.
+pub record IsDrilled (H : HostTable) (A : List Act) (f : Registers) (l : List LogEntry)
+    : Type 0 where
+  pub logged : IsLogOf (run H A (written_in l)) l
+  pub registers : AreRegisters H.local (network (run H A (written_in l))) f
 
 -- The session was cut off: what was taken, what came in and what went out are fronts.
 pub record IsStopped (H : HostTable) (reading : Reading) (first now : Option (List ℕ))

@@ -8,15 +8,20 @@ use Rattle.ibos_kinds.specs.declared.outcome.Outcome.{Outcome}
 use Rattle.ibos_make.specs.Drill.{drill_acts, drill_table}
 use Rattle.ibos_model.specs.Journal.{Journal, is_heard, is_ok, is_sent}
 use Rattle.ibos_model.specs.Runs.{run}
+use Rattle.ibos_run.specs.declared.tally.Tally.{Tally}
 
 -- the journal of a drill, for which the device wrote W
 abbrev pub drill_journal : ℕ → ℕ → List (List ℕ) → Journal
 drill_journal seed rounds W = run drill_table (drill_acts seed rounds) W
 
+-- one more, where that is so
+abbrev pub one_if : Bool → ℕ → ℕ
+one_if is n = if is then n + 1 else n
+
 -- how many entries have such an outcome
 abbrev pub count_of : (Outcome → Bool) → Journal → ℕ
 count_of is [] = 0
-count_of is (e ∷ J) = if is e.outcome then count_of is J + 1 else count_of is J
+count_of is (e ∷ J) = one_if (is e.outcome) (count_of is J)
 
 abbrev pub is_done : Outcome → Bool
 is_done outcome = is_ok outcome.head
@@ -32,15 +37,7 @@ misses items = false
 abbrev pub is_missed : Outcome → Bool
 is_missed outcome = misses outcome.items
 
--- so many acts were accepted, and so on
-pub record Tally : Type 0 where
-  pub acts : ℕ
-  pub done : ℕ
-  pub denied : ℕ
-  pub heard : ℕ
-  pub missed : ℕ
-  pub sent : ℕ
-
+-- how many acts there were, and how many of each outcome
 abbrev pub tally_of : Journal → Tally
 tally_of J = record {
   acts = length J;
@@ -49,6 +46,17 @@ tally_of J = record {
   heard = count_of is_heard J;
   missed = count_of is_missed J;
   sent = count_of is_sent J;
+}
+
+-- after one more act
+abbrev pub tally_after : Tally → Outcome → Tally
+tally_after tally outcome = record {
+  acts = tally.acts + 1;
+  done = one_if (is_done outcome) tally.done;
+  denied = one_if (is_denied outcome) tally.denied;
+  heard = one_if (is_heard outcome) tally.heard;
+  missed = one_if (is_missed outcome) tally.missed;
+  sent = one_if (is_sent outcome) tally.sent;
 }
 
 -- the line of a tally

@@ -1,11 +1,15 @@
-//! The top call: from the words of a command line, a host table and a script to the printed text.
+//! The top call: from the words of a command line, and the files that they name, to the printed text.
 #![tactic(auto)]
 
+mod capture;
+mod drill;
 mod fault;
 mod gather;
+mod numbers;
 mod run_words;
 mod script;
 mod session;
+mod tally;
 mod texts;
 mod transfer;
 

@@ -1,29 +1,33 @@
 // The top call.
-ghost use Rattle.std.specs.Prelude.{◌≡◌, ◌⊎◌, ◌≤◌, ◌<◌, ◌+◌, ◌-◌, ◌^◌, [], IsSome, IsSomeAnd};
+ghost use Rattle.std.specs.Prelude.{◌≡◌, ◌⊎◌, ◌≤◌, ◌<◌, ◌+◌, ◌-◌, ◌^◌, [], ◌∷◌, IsSome, IsSomeAnd};
 ghost use Rattle.std.specs.Prelude.{IfSome, IfOk, IfErr, OnErr, OnOk, List, ℕ};
-ghost use Rattle.std.specs.Option.{option_map};
+ghost use Rattle.std.specs.List.{All, Any};
+ghost use Rattle.std.specs.Option.{option_copied, option_map};
 ghost use Rattle.ibos_kinds.specs.Outside.{Rose, taken_after};
 ghost use Rattle.ibos_origin.specs.Reads.{Reads};
 ghost use Rattle.ibos_origin.specs.Tables.{hosts_in};
-ghost use Rattle.ibos_run.specs.Inputs.{IsIsolatedInput, input};
-ghost use Rattle.ibos_run.specs.Refusals.{host_refusal};
-ghost use Rattle.ibos_run.specs.Words.{form_in};
-ghost use Rattle.ibos_run.specs.Inputs.{input_with, session_in, table_in, wanted};
-ghost use Rattle.ibos_run.specs.Refusals.{refusal_line};
 ghost use Rattle.ibos_model.specs.Logs.{written_in};
 ghost use Rattle.ibos_run.specs.Device.{AreRegistersOf, AreSentRightly, IsLogged, IsLoggedFront};
 ghost use Rattle.ibos_run.specs.Device.{IsReset};
 ghost use Rattle.ibos_run.specs.Faults.{IsCaused, IsFaultless, OnWhole, status_for};
-ghost use Rattle.ibos_run.specs.Forms.{form_of};
+ghost use Rattle.ibos_run.specs.Forms.{IsBounded, form_of};
+ghost use Rattle.ibos_run.specs.Inputs.{IsIsolatedInput, frames_by, input, input_of, script_with};
+ghost use Rattle.ibos_run.specs.Inputs.{session_in, table_in, wanted};
+ghost use Rattle.ibos_run.specs.Refusals.{capture_refusal, host_refusal, refusal_line};
 ghost use Rattle.ibos_run.specs.Session.{IsBroken, IsTold};
 ghost use Rattle.ibos_run.specs.Took.{Took, TookFront};
+ghost use Rattle.ibos_run.specs.Words.{Files, files_of, form_in, three_words, with_capture};
 
+use crate::capture::{Capture, Frames};
+use crate::drill::run_drill;
 use crate::fault::{Fault, Status};
 use crate::gather::{hand_over, make_room};
 use crate::script::MAX_SCRIPT_LEN;
+use crate::numbers::{read_rounds, read_seed};
 use crate::session::run_session;
 use crate::texts::{File, refusal, usage};
 use crate::transfer::{read_file, write_all};
+use ibos_capture::{CapFault, CaptureFault};
 use ibos_kinds::{Bytes, Cabinet, Failed, Sink};
 use ibos_model::{acts_make_runs, isolation, sends_are_right};
 use ibos_nic::Nic;
@@ -33,17 +37,20 @@ use std::alloc::Global;
 // The most that a host table may have, in bytes.
 const MAX_HOSTS_LEN: usize = 4_194_304;
 
-/// Runs the words of a command line: `run HOSTS SCRIPT`, with the names of a host table and a
-/// script.
+/// Runs the words of a command line: `run HOSTS SCRIPT` or `run HOSTS SCRIPT CAPTURE`, with the
+/// names of a host table, a script and a packet capture, or `drill SEED ROUNDS`, with two numbers.
 ///
-/// The host table is read first, and the script where the table has no fault. Each line of the
-/// script that is an act is one step of a kernel, and the text of its outcome goes to the sink,
-/// numbered from 1. The last line is `end K` with the number of acts, or `refused FILE K N NAME`
-/// with the first fault: FILE is `hosts` or `script`, K the line, N and NAME the fault's number and
-/// name. Any other words are answered with the usage line, for which no memory is taken.
+/// The host table is read first, then the capture if one is named, and then the script, each where
+/// what comes before has no fault. Each line of the script that is an act is one step of a kernel,
+/// and the text of its outcome goes to the sink, numbered from 1; a line `wire next` is the act that
+/// the next frame of the capture comes in. The last line is `end K` with the number of acts, or
+/// `refused FILE K N NAME` with the first fault: FILE is `hosts`, `capture` or `script`, K the line
+/// or the capture's entry, N and NAME the fault's number and name. A drill makes its acts in the
+/// same way, and writes one line that counts them. Any other words are answered with the usage
+/// line, for which no memory is taken.
 ///
-/// The device is at reset, and is asked for nothing until the host table and the script are read.
-/// In the clauses W is what it wrote for the frames that came in, by its log at the end.
+/// The device is at reset, and is asked for nothing until the files are read. In the clauses W is
+/// what it wrote for the frames that came in, by its log at the end.
 pub fn run<C: Cabinet, N: Nic, K: Sink>(
     alloc: Global,
     words: &[Bytes],
@@ -54,8 +61,7 @@ pub fn run<C: Cabinet, N: Nic, K: Sink>(
     requires reset { IsReset (N.regs nic.old) (N.log nic.old) }
     requires sink_count { K.faults sink.old < 2 ^ 64 - 1 }
     requires file_counts { IfSome (form_in words.now) (λ form.
-        (C.faults cabinet.old form.hosts < 2 ^ 64 - 1)
-        × (C.faults cabinet.old form.script < 2 ^ 64 - 1)) }
+        All (λ name. C.faults cabinet.old name < 2 ^ 64 - 1) (files_of form)) }
 
     // Where no failed read or write ended the run, and it was not out of memory, its status, its
     // text and the device's log are those of the inputs, with that W.
@@ -100,14 +106,13 @@ pub fn run<C: Cabinet, N: Nic, K: Sink>(
 
     // Each fault has its cause.
     ensures read { result ≡ Status.ReadFault → IsSomeAnd (form_in words.now) (λ form.
-        Rose (C.faults cabinet.old form.hosts) (C.faults cabinet.new form.hosts)
-        ⊎ Rose (C.faults cabinet.old form.script) (C.faults cabinet.new form.script)) }
+        Any (λ name. Rose (C.faults cabinet.old name) (C.faults cabinet.new name))
+        (files_of form)) }
     ensures write { result ≡ Status.WriteFault → Rose (K.faults sink.old) (K.faults sink.new) }
     ensures memory { result ≡ Status.Memory → IsSome (form_in words.now) }
     ensures complete { K.faults sink.new ≡ K.faults sink.old
         → IfSome (form_in words.now) (λ form.
-        (C.faults cabinet.new form.hosts ≡ C.faults cabinet.old form.hosts)
-        × (C.faults cabinet.new form.script ≡ C.faults cabinet.old form.script))
+        All (λ name. C.faults cabinet.new name ≡ C.faults cabinet.old name) (files_of form))
         → IsFaultless result }
 {
     // Called for the laws that its clauses follow from.
@@ -119,28 +124,94 @@ pub fn run<C: Cabinet, N: Nic, K: Sink>(
             Ok(()) => Status::Usage,
             Err(Failed::Failed) => Status::WriteFault,
         },
-        Some(form) => match run_files(alloc, form.hosts, form.script, cabinet, nic, sink) {
+        Some(form) => match run_form(alloc, form, cabinet, nic, sink) {
             Ok(status) => status,
             Err(fault) => fault.status(),
         },
     }
 }
 
-/// The files that words name.
+/// What words ask for.
 #[derive(Clone, Copy)]
-pub struct Form<'a> {
-    pub hosts: &'a Bytes,
-    pub script: &'a Bytes,
+pub enum Form<'a> {
+    /// A session over files of these names.
+    Files {
+        hosts: &'a Bytes,
+        script: &'a Bytes,
+        capture: Option<&'a Bytes>,
+    },
+    /// A drill.
+    Rounds { seed: u64, rounds: u32 },
 }
 
 fn read_form(words: &[Bytes]) -> Option<Form<'_>>
-    ensures { option_map form_of result ≡ form_in words.now }
+    ensures form { option_map form_of result ≡ form_in words.now }
+    ensures few { IfSome result IsBounded }
 {
     match words {
-        [verb, hosts, script] if verb.as_slice() == b"run".as_slice() => {
-            Some(Form { hosts, script })
+        [verb, second, third] => read_three(verb, second, third),
+        [verb, hosts, script, capture] if verb.as_slice() == b"run".as_slice() => {
+            Some(Form::Files {
+                hosts,
+                script,
+                capture: Some(capture),
+            })
         }
         _ => None,
+    }
+}
+
+fn read_three<'a>(verb: &'a Bytes, second: &'a Bytes, third: &'a Bytes) -> Option<Form<'a>>
+    ensures form { option_map form_of result ≡ three_words verb.now second.now third.now }
+    ensures few { IfSome result IsBounded }
+{
+    if verb.as_slice() == b"run".as_slice() {
+        return Some(Form::Files {
+            hosts: second,
+            script: third,
+            capture: None,
+        });
+    }
+    if verb.as_slice() == b"drill".as_slice() {
+        let seed = read_seed(second.as_slice())?;
+        let rounds = read_rounds(third.as_slice())?;
+        return Some(Form::Rounds { seed, rounds });
+    }
+    None
+}
+
+// Runs what is asked for.
+fn run_form<C: Cabinet, N: Nic, K: Sink>(
+    alloc: Global,
+    form: Form<'_>,
+    cabinet: &mut C,
+    nic: &mut N,
+    sink: &mut K,
+) -> Result<Status, Fault>
+    requires reset { IsReset (N.regs nic.old) (N.log nic.old) }
+    requires few { IsBounded form }
+    ensures status { IfOk result (λ status.
+        IfSome (input_of (C.holds cabinet.old) (form_of form)) (λ i. status ≡ status_for i)) }
+    ensures told { OnOk result (
+        IfSome (input_of (C.holds cabinet.old) (form_of form)) (λ i.
+        IsTold i (K.taken sink.old) (K.taken sink.new) (N.regs nic.new) (N.log nic.new))) }
+    ensures broken { OnErr result (
+        IfSome (input_of (C.holds cabinet.old) (form_of form)) (λ i.
+        IsBroken i (K.taken sink.old) (K.taken sink.new) [] (N.log nic.new))) }
+    ensures ends { IfOk result (λ status. (status ≡ Status.Done) ⊎ (status ≡ Status.Refused)) }
+    ensures holds { (name : List ℕ) → C.holds cabinet.new name ≡ C.holds cabinet.old name }
+    ensures cause { IfErr result (λ fault. IsCaused fault
+        (Any (λ name. Rose (C.faults cabinet.old name) (C.faults cabinet.new name))
+        (files_of (form_of form)))
+        (Rose (K.faults sink.old) (K.faults sink.new))) }
+{
+    match form {
+        Form::Files {
+            hosts,
+            script,
+            capture,
+        } => run_files(alloc, hosts, script, capture, cabinet, nic, sink),
+        Form::Rounds { seed, rounds } => run_drill(alloc, seed, rounds, nic, sink),
     }
 }
 
@@ -149,29 +220,33 @@ fn run_files<C: Cabinet, N: Nic, K: Sink>(
     alloc: Global,
     hosts: &Bytes,
     script: &Bytes,
+    capture: Option<&Bytes>,
     cabinet: &mut C,
     nic: &mut N,
     sink: &mut K,
 ) -> Result<Status, Fault>
     requires { IsReset (N.regs nic.old) (N.log nic.old) }
     ensures status { IfOk result (λ status.
-        IfSome (input_with (C.holds cabinet.old hosts.now) (C.holds cabinet.old script.now)) (λ i.
+        IfSome (input_of (C.holds cabinet.old)
+        (Files hosts.now script.now (option_copied capture))) (λ i.
         status ≡ status_for i)) }
     ensures told { OnOk result (
-        IfSome (input_with (C.holds cabinet.old hosts.now) (C.holds cabinet.old script.now)) (λ i.
+        IfSome (input_of (C.holds cabinet.old)
+        (Files hosts.now script.now (option_copied capture))) (λ i.
         IsTold i (K.taken sink.old) (K.taken sink.new) (N.regs nic.new) (N.log nic.new))) }
     ensures broken { OnErr result (
-        IfSome (input_with (C.holds cabinet.old hosts.now) (C.holds cabinet.old script.now)) (λ i.
+        IfSome (input_of (C.holds cabinet.old)
+        (Files hosts.now script.now (option_copied capture))) (λ i.
         IsBroken i (K.taken sink.old) (K.taken sink.new) [] (N.log nic.new))) }
     ensures ends { IfOk result (λ status. (status ≡ Status.Done) ⊎ (status ≡ Status.Refused)) }
     ensures holds { (name : List ℕ) → C.holds cabinet.new name ≡ C.holds cabinet.old name }
     ensures cause { IfErr result (λ fault. IsCaused fault
-        (Rose (C.faults cabinet.old hosts.now) (C.faults cabinet.new hosts.now)
-        ⊎ Rose (C.faults cabinet.old script.now) (C.faults cabinet.new script.now))
+        (Any (λ name. Rose (C.faults cabinet.old name) (C.faults cabinet.new name))
+        (files_of (Files hosts.now script.now (option_copied capture))))
         (Rose (K.faults sink.old) (K.faults sink.new))) }
 {
     let mut text = make_room(alloc)?;
-    match gather(alloc, hosts, script, cabinet, nic, &mut text, sink) {
+    match gather(alloc, hosts, script, capture, cabinet, nic, &mut text, sink) {
         Ok(status) => Ok(status),
         Err(fault) => {
             hand_over(&mut text, sink)?;
@@ -184,6 +259,7 @@ fn gather<C: Cabinet, N: Nic, K: Sink>(
     alloc: Global,
     hosts: &Bytes,
     script: &Bytes,
+    capture: Option<&Bytes>,
     cabinet: &mut C,
     nic: &mut N,
     text: &mut Bytes,
@@ -192,24 +268,27 @@ fn gather<C: Cabinet, N: Nic, K: Sink>(
     requires reset { IsReset (N.regs nic.old) (N.log nic.old) }
     requires empty { text.old ≡ [] }
     ensures status { IfOk result (λ status.
-        IfSome (input_with (C.holds cabinet.old hosts.now) (C.holds cabinet.old script.now)) (λ i.
+        IfSome (input_of (C.holds cabinet.old)
+        (Files hosts.now script.now (option_copied capture))) (λ i.
         status ≡ status_for i)) }
     ensures told { OnOk result (
-        IfSome (input_with (C.holds cabinet.old hosts.now) (C.holds cabinet.old script.now)) (λ i.
+        IfSome (input_of (C.holds cabinet.old)
+        (Files hosts.now script.now (option_copied capture))) (λ i.
         IsTold i (K.taken sink.old) (K.taken sink.new) (N.regs nic.new) (N.log nic.new))) }
     ensures broken { OnErr result (
-        IfSome (input_with (C.holds cabinet.old hosts.now) (C.holds cabinet.old script.now)) (λ i.
+        IfSome (input_of (C.holds cabinet.old)
+        (Files hosts.now script.now (option_copied capture))) (λ i.
         IsBroken i (K.taken sink.old) (K.taken sink.new) text.new (N.log nic.new))) }
     ensures ends { IfOk result (λ status. (status ≡ Status.Done) ⊎ (status ≡ Status.Refused)) }
     ensures holds { (name : List ℕ) → C.holds cabinet.new name ≡ C.holds cabinet.old name }
     ensures later { K.faults sink.old ≤ K.faults sink.new }
     ensures cause { IfErr result (λ fault. IsCaused fault
-        (Rose (C.faults cabinet.old hosts.now) (C.faults cabinet.new hosts.now)
-        ⊎ Rose (C.faults cabinet.old script.now) (C.faults cabinet.new script.now))
+        (Any (λ name. Rose (C.faults cabinet.old name) (C.faults cabinet.new name))
+        (files_of (Files hosts.now script.now (option_copied capture))))
         (Rose (K.faults sink.old) (K.faults sink.new))) }
 {
     match read_hosts(alloc, cabinet, hosts)? {
-        Ok(hosts) => gather_script(alloc, hosts, script, cabinet, nic, text, sink),
+        Ok(hosts) => gather_capture(alloc, hosts, script, capture, cabinet, nic, text, sink),
         Err(HostsFault::At { line, fault }) => {
             let status = refuse_hosts(alloc, line, fault, text, sink)?;
             Ok(status)
@@ -259,10 +338,12 @@ fn refuse_hosts<K: Sink>(
     Ok(Status::Refused)
 }
 
-fn gather_script<C: Cabinet, N: Nic, K: Sink>(
+// Reads the capture, if one is named, and goes on with the script.
+fn gather_capture<C: Cabinet, N: Nic, K: Sink>(
     alloc: Global,
     hosts: Hosts,
-    name: &Bytes,
+    script: &Bytes,
+    capture: Option<&Bytes>,
     cabinet: &mut C,
     nic: &mut N,
     text: &mut Bytes,
@@ -271,12 +352,84 @@ fn gather_script<C: Cabinet, N: Nic, K: Sink>(
     requires reset { IsReset (N.regs nic.old) (N.log nic.old) }
     requires empty { text.old ≡ [] }
     ensures status { IfOk result (λ status.
-        IfSome (session_in hosts (C.holds cabinet.old name.now)) (λ i. status ≡ status_for i)) }
+        IfSome (session_in hosts (frames_by (C.holds cabinet.old) (option_copied capture))
+        (C.holds cabinet.old script.now)) (λ i. status ≡ status_for i)) }
     ensures told { OnOk result (
-        IfSome (session_in hosts (C.holds cabinet.old name.now)) (λ i.
+        IfSome (session_in hosts (frames_by (C.holds cabinet.old) (option_copied capture))
+        (C.holds cabinet.old script.now)) (λ i.
         IsTold i (K.taken sink.old) (K.taken sink.new) (N.regs nic.new) (N.log nic.new))) }
     ensures broken { OnErr result (
-        IfSome (session_in hosts (C.holds cabinet.old name.now)) (λ i.
+        IfSome (session_in hosts (frames_by (C.holds cabinet.old) (option_copied capture))
+        (C.holds cabinet.old script.now)) (λ i.
+        IsBroken i (K.taken sink.old) (K.taken sink.new) text.new (N.log nic.new))) }
+    ensures ends { IfOk result (λ status. (status ≡ Status.Done) ⊎ (status ≡ Status.Refused)) }
+    ensures holds { (name : List ℕ) → C.holds cabinet.new name ≡ C.holds cabinet.old name }
+    ensures files_later { (name : List ℕ) → C.faults cabinet.old name ≤ C.faults cabinet.new name }
+    ensures later { K.faults sink.old ≤ K.faults sink.new }
+    ensures cause { IfErr result (λ fault. IsCaused fault
+        (Any (λ name. Rose (C.faults cabinet.old name) (C.faults cabinet.new name))
+        (with_capture (option_copied capture) (script.now ∷ [])))
+        (Rose (K.faults sink.old) (K.faults sink.new))) }
+{
+    let Some(name) = capture else {
+        return gather_script(alloc, hosts, script, Frames::new(None), cabinet, nic, text, sink);
+    };
+    match Capture::read(alloc, cabinet, name)? {
+        Ok(capture) => {
+            let frames = Frames::new(Some(&capture));
+            gather_script(alloc, hosts, script, frames, cabinet, nic, text, sink)
+        }
+        Err(CaptureFault::At { entry, fault }) => {
+            let status = refuse_capture(alloc, entry, fault, text, sink)?;
+            Ok(status)
+        }
+        Err(CaptureFault::Memory) => Err(Fault::Memory),
+    }
+}
+
+fn refuse_capture<K: Sink>(
+    alloc: Global,
+    entry: u32,
+    fault: CapFault,
+    text: &mut Bytes,
+    sink: &mut K,
+) -> Result<Status, Fault>
+    requires { text.old ≡ [] }
+    ensures status { IfOk result (λ status. status ≡ Status.Refused) }
+    ensures text { OnOk result (Took (K.taken sink.old) (K.taken sink.new) []
+        (refusal_line (capture_refusal (entry, fault)))) }
+    ensures front { OnErr result (TookFront (K.taken sink.old) (K.taken sink.new) text.new
+        (refusal_line (capture_refusal (entry, fault)))) }
+    ensures later { K.faults sink.old ≤ K.faults sink.new }
+    ensures cause { IfErr result (λ fault.
+        IsCaused fault ⊥ (Rose (K.faults sink.old) (K.faults sink.new))) }
+{
+    let (number, name) = (fault.number(), fault.name().as_bytes());
+    let last = refusal(alloc, File::Capture, entry, number, name)?;
+    text.push_slice(last.as_slice())?;
+    hand_over(text, sink)?;
+    Ok(Status::Refused)
+}
+
+fn gather_script<C: Cabinet, N: Nic, K: Sink>(
+    alloc: Global,
+    hosts: Hosts,
+    name: &Bytes,
+    frames: Frames<'_>,
+    cabinet: &mut C,
+    nic: &mut N,
+    text: &mut Bytes,
+    sink: &mut K,
+) -> Result<Status, Fault>
+    requires reset { IsReset (N.regs nic.old) (N.log nic.old) }
+    requires empty { text.old ≡ [] }
+    ensures status { IfOk result (λ status.
+        IfSome (script_with hosts frames (C.holds cabinet.old name.now)) (λ i. status ≡ status_for i)) }
+    ensures told { OnOk result (
+        IfSome (script_with hosts frames (C.holds cabinet.old name.now)) (λ i.
+        IsTold i (K.taken sink.old) (K.taken sink.new) (N.regs nic.new) (N.log nic.new))) }
+    ensures broken { OnErr result (
+        IfSome (script_with hosts frames (C.holds cabinet.old name.now)) (λ i.
         IsBroken i (K.taken sink.old) (K.taken sink.new) text.new (N.log nic.new))) }
     ensures ends { IfOk result (λ status. (status ≡ Status.Done) ⊎ (status ≡ Status.Refused)) }
     ensures holds { (name : List ℕ) → C.holds cabinet.new name ≡ C.holds cabinet.old name }
@@ -287,6 +440,6 @@ fn gather_script<C: Cabinet, N: Nic, K: Sink>(
         (Rose (K.faults sink.old) (K.faults sink.new))) }
 {
     let script = read_file(alloc, cabinet, name, MAX_SCRIPT_LEN)?;
-    let status = run_session(alloc, hosts, script.as_slice(), nic, text, sink)?;
+    let status = run_session(alloc, hosts, script.as_slice(), frames, nic, text, sink)?;
     Ok(status)
 }

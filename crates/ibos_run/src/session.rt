@@ -13,6 +13,7 @@ ghost use Rattle.ibos_run.specs.Faults.{IsCaused, ending};
 ghost use Rattle.ibos_run.specs.Script.{IsOfScript, refusal_of};
 ghost use Rattle.ibos_run.specs.Session.{IsBroken, IsCut, IsMade, IsServed, IsStopped, IsTold};
 
+use crate::capture::Frames;
 use crate::fault::{Fault, Status};
 use crate::gather::{hand_over, hand_over_if_much};
 use crate::script::{End, MAX_SCRIPT_LEN, Next, Script};
@@ -28,12 +29,13 @@ use ibos_origin::Hosts;
 use ibos_script::write_outcome;
 use std::alloc::Global;
 
-/// Runs a script over a host table and a device at reset. What is gathered and not handed over
-/// stays in `text`.
+/// Runs a script with the frames of a capture, over a host table and a device at reset. What is
+/// gathered and not handed over stays in `text`.
 pub fn run_session<N: Nic, K: Sink>(
     alloc: Global,
     hosts: Hosts,
     script: &[u8],
+    frames: Frames<'_>,
     nic: &mut N,
     text: &mut Bytes,
     sink: &mut K,
@@ -41,17 +43,17 @@ pub fn run_session<N: Nic, K: Sink>(
     requires within { length script.now ≤ MAX_SCRIPT_LEN + 1 }
     requires reset { IsReset (N.regs nic.old) (N.log nic.old) }
     requires empty { text.old ≡ [] }
-    ensures status { IfOk result (λ status. status ≡ ending (reading_of [] script.now).refused) }
-    ensures told { OnOk result (IsTold (Session hosts (reading_of [] script.now))
+    ensures status { IfOk result (λ status. status ≡ ending (reading_of frames script.now).refused) }
+    ensures told { OnOk result (IsTold (Session hosts (reading_of frames script.now))
         (K.taken sink.old) (K.taken sink.new) (N.regs nic.new) (N.log nic.new)) }
-    ensures broken { OnErr result (IsBroken (Session hosts (reading_of [] script.now))
+    ensures broken { OnErr result (IsBroken (Session hosts (reading_of frames script.now))
         (K.taken sink.old) (K.taken sink.new) text.new (N.log nic.new)) }
     ensures later { K.faults sink.old ≤ K.faults sink.new }
     ensures cause { IfErr result (λ fault.
         IsCaused fault ⊥ (Rose (K.faults sink.old) (K.faults sink.new))) }
 {
     let mut kernel = Kernel::new(alloc, hosts, nic)?;
-    let mut script = Script::new(script);
+    let mut script = Script::new(script, frames);
     let ended = run_script(alloc, &mut kernel, &mut script, nic, text, sink);
     kernel.close();
     ended
@@ -167,7 +169,7 @@ fn make_act<N: Nic, K: Sink>(
 }
 
 // Gathers the last line, after so many acts.
-#[tactic(auto, unfolding(crate::specs::Refusals::too_long))]
+#[tactic(auto, unfolding(crate::specs::Refusals::no_frame, crate::specs::Refusals::too_long))]
 fn push_last(alloc: Global, acts: u32, end: End, text: &mut Bytes) -> Result<Status, Memory>
     requires { IsOfScript end }
     ensures status { IfOk result (λ status. status ≡ ending (refusal_of end)) }
@@ -178,6 +180,10 @@ fn push_last(alloc: Global, acts: u32, end: End, text: &mut Bytes) -> Result<Sta
         End::Whole => {
             text.push_slice(end_line(alloc, acts)?.as_bytes())?;
             Ok(Status::Done)
+        }
+        End::NoFrame { line } => {
+            text.push_slice(refusal(alloc, File::Script, line, 7, b"NoFrame")?.as_slice())?;
+            Ok(Status::Refused)
         }
         End::TooLong { line } => {
             text.push_slice(refusal(alloc, File::Script, line, 8, b"TooLong")?.as_slice())?;

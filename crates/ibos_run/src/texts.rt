@@ -5,7 +5,9 @@ ghost use Rattle.ibos_model.specs.Text as spec;
 ghost use Rattle.ibos_run.specs.Refusals.{Refusal, file_word, refusal_line};
 ghost use Rattle.ibos_run.specs.Words.{usage_line};
 ghost use Rattle.ibos_run.specs.Forms.{file_of};
+ghost use Rattle.ibos_run.specs.Summaries.{summary_line};
 
+use crate::tally::Tally;
 use ibos_kinds::{Bytes, Memory};
 use std::alloc::{AllocError, Global};
 
@@ -13,6 +15,7 @@ use std::alloc::{AllocError, Global};
 #[derive(Clone, Copy)]
 pub enum File {
     Hosts,
+    Capture,
     Script,
 }
 
@@ -22,6 +25,7 @@ impl File {
     {
         match self {
             File::Hosts => b"hosts",
+            File::Capture => b"capture",
             File::Script => b"script",
         }
     }
@@ -43,7 +47,23 @@ pub fn end_line(alloc: Global, acts: u32) -> Result<String, AllocError>
     format!(in alloc; "end {acts}\n")
 }
 
-/// The last line of a run that a fault of a file ended; `place` is the fault's line.
+/// The line of a drill.
+#[tactic(auto, unfolding(crate::specs::Summaries::summary_line))]
+pub fn summary(alloc: Global, seed: u64, rounds: u32, tally: &Tally) -> Result<String, AllocError>
+    ensures { IfOk result (λ line. string_bytes line ≡ summary_line seed rounds tally.now) }
+{
+    let Tally {
+        acts,
+        done,
+        denied,
+        heard,
+        missed,
+        sent,
+    } = *tally;
+    format!(in alloc; "drill {seed} {rounds} acts {acts} ok {done} denied {denied} heard {heard} missed {missed} sent {sent}\n")
+}
+
+/// The last line of a run that a fault of a file ended; `place` is the fault's line or entry.
 #[tactic(auto, unfolding(crate::specs::Refusals::refusal_line))]
 pub fn refusal(
     alloc: Global,

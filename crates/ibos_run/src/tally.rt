@@ -1,0 +1,58 @@
+// How many acts of a drill had which outcome.
+ghost use Rattle.std.specs.Prelude.{◌≡◌, ◌<◌, ◌^◌, []};
+ghost use Rattle.ibos_model.specs.Journal as model;
+ghost use Rattle.ibos_run.specs.Summaries.{tally_after, tally_of};
+ghost use Rattle.ibos_run.specs.Summaries as spec;
+
+use ibos_kinds::{Head, Item, Outcome, Verdict};
+
+/// How many acts were made, and how many of them were accepted, were denied, had their frame heard,
+/// had it missed, and sent a frame.
+#[derive(Clone, Copy, Debug, PartialEq, Eq)]
+pub struct Tally {
+    pub acts: u32,
+    pub done: u32,
+    pub denied: u32,
+    pub heard: u32,
+    pub missed: u32,
+    pub sent: u32,
+}
+
+impl Tally {
+    /// No act was made.
+    pub fn new() -> Tally
+        ensures { result ≡ tally_of [] }
+    {
+        Tally {
+            acts: 0,
+            done: 0,
+            denied: 0,
+            heard: 0,
+            missed: 0,
+            sent: 0,
+        }
+    }
+
+    /// Counts one more act.
+    pub fn count(&mut self, outcome: &Outcome)
+        requires acts { self.old.acts < 2 ^ 31 }
+        requires done { self.old.done < 2 ^ 31 }
+        requires denied { self.old.denied < 2 ^ 31 }
+        requires heard { self.old.heard < 2 ^ 31 }
+        requires missed { self.old.missed < 2 ^ 31 }
+        requires sent { self.old.sent < 2 ^ 31 }
+        ensures { self.new ≡ tally_after self.old outcome.now }
+    {
+        self.acts += 1;
+        match outcome.head {
+            Head::Ok => self.done += 1,
+            Head::Denied(_) => self.denied += 1,
+        }
+        match outcome.items.as_slice() {
+            [Item::VerdictIs { verdict: Verdict::Heard }, ..] => self.heard += 1,
+            [Item::VerdictIs { verdict: Verdict::Missed }, ..] => self.missed += 1,
+            [Item::SentIs { .. }, ..] => self.sent += 1,
+            _ => {}
+        }
+    }
+}
