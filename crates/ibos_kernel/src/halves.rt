@@ -89,11 +89,7 @@ fn is_net(act: &Act) -> bool
         Act::RxPost { .. } | Act::RxBell | Act::WireIn { .. } => true,
         Act::Fill { .. } | Act::Submit { .. } => true,
         Act::TxPost { .. } | Act::TxBell | Act::WireOut => true,
-        Act::Start { .. } | Act::Switch { .. } | Act::Close { .. } | Act::Press { .. } => false,
-        Act::Click { .. } | Act::Look | Act::Go { .. } | Act::Draw { .. } => false,
-        Act::CookieSet { .. } | Act::CookieGet { .. } => false,
-        Act::Put { .. } | Act::Ask { .. } | Act::StoreAnswer { .. } => false,
-        Act::StoreNone { .. } | Act::StoreLose { .. } => false,
+        _ => false,
     }
 }
 

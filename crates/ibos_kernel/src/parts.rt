@@ -159,17 +159,14 @@ impl Parts {
             Act::CookieGet { who, .. } => {
                 get(&self.jars, alloc, self.tabs.origin(*who), *who, out)?;
             }
-            Act::Bind { .. } | Act::Unbind { .. } | Act::Done { .. } => unreachable!(),
-            Act::RegRead { .. } | Act::RegWrite { .. } => unreachable!(),
-            Act::RxPost { .. } | Act::RxBell | Act::WireIn { .. } => unreachable!(),
-            Act::Fill { .. } | Act::Submit { .. } | Act::TxPost { .. } => unreachable!(),
-            Act::TxBell | Act::WireOut => unreachable!(),
             Act::Put { .. } | Act::Ask { .. } | Act::StoreAnswer { .. } => {
                 make_stored(&self.tabs, &mut self.store, alloc, act, out)?;
             }
             Act::StoreNone { .. } | Act::StoreLose { .. } => {
                 make_stored(&self.tabs, &mut self.store, alloc, act, out)?;
             }
+            // The acts of the net half.
+            _ => unreachable!(),
         }
         Ok(())
     }

@@ -134,12 +134,8 @@ impl Net {
             Act::TxPost { slot, send } => self.parts.post_send(*slot, *send, out),
             Act::TxBell => self.parts.bell_sends(out)?,
             Act::WireOut => self.parts.transmit(alloc, nic, out)?,
-            Act::Start { .. } | Act::Switch { .. } | Act::Close { .. } => unreachable!(),
-            Act::Press { .. } | Act::Click { .. } | Act::Look => unreachable!(),
-            Act::Go { .. } | Act::Draw { .. } => unreachable!(),
-            Act::CookieSet { .. } | Act::CookieGet { .. } => unreachable!(),
-            Act::Put { .. } | Act::Ask { .. } | Act::StoreAnswer { .. } => unreachable!(),
-            Act::StoreNone { .. } | Act::StoreLose { .. } => unreachable!(),
+            // The acts of the pages.
+            _ => unreachable!(),
         }
         Ok(())
     }
