@@ -44,7 +44,7 @@ data Case (x : Option Bound) (flow : ℕ) (h : Heading) : Type 0 where
   Foreign : (b : Bound) → admitted_by x flow h ≡ Err F13 → x ≡ Some b → proto_at b flow ≡ Some h.proto → (b.remote ≡ h.remote → ⊥) → Case x flow h
   Own : (b : Bound) → admitted_by x flow h ≡ Ok flow → x ≡ Some b → proto_at b flow ≡ Some h.proto → b.remote ≡ h.remote → Case x flow h
 
-some_is : {A : Type 0} (x y : A) → Some x ≡ Some y → x ≡ y
+pub some_is : {A : Type 0} (x y : A) → Some x ≡ Some y → x ≡ y
 some_is x y e = ap (λ s. unwrap_or s x) e
 
 case : (x : Option Bound) (flow : ℕ) (h : Heading) → Case x flow h
@@ -175,7 +175,7 @@ module _ (owned : AreOwned) (owners : HaveOwners) where
       )
 
 -- the same for one instance
-same_is : (p q : Instance) → same p q ≡ true → p ≡ q
+pub same_is : (p q : Instance) → same p q ≡ true → p ≡ q
 same_is p q h =
     let tab : p.tab ≡ q.tab = grind (arith, nat_tests, h) in
     let ord : p.ord ≡ q.ord = grind (arith, nat_tests, h) in
@@ -183,7 +183,7 @@ same_is p q h =
     let G : ℕ → Instance = λ n. record { tab = q.tab; ord = n } in
     ap F tab ∙ ap G ord
 
-same_self : (p : Instance) → same p p ≡ true
+pub same_self : (p : Instance) → same p p ≡ true
 same_self p = grind (arith, nat_tests)
 
 abbrev who_in : Result (Instance × ℕ) Rule → Instance → Instance

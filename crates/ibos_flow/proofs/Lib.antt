@@ -1,2 +1,3 @@
 mod FoundLemmas
 mod Places
+mod PortPlaces

@@ -1,11 +1,10 @@
 // The flows of one instance.
 ghost use Rattle.std.specs.Prelude.{◌≡◌, ◌<◌, ◌≤◌, length, OnOk, OnErr};
-ghost use Rattle.ibos_kinds.specs.Flows as spec;
-ghost use Rattle.ibos_kinds.specs.Flows.{admitted, bind_answer, close_answer, no_flows, proto_at};
+ghost use Rattle.ibos_kinds.specs.Flows.{bind_answer, close_answer, no_flows, proto_at};
 ghost use Rattle.ibos_kinds.specs.Flows.{with_flow, without_flow};
 
 use arrayvec::ArrayVec;
-use ibos_kinds::{Endpoint, Heading, Proto, Rule};
+use ibos_kinds::{Endpoint, Proto, Rule};
 use std::marker::Model;
 
 /// The most flows that an instance binds in its life.
@@ -61,6 +60,7 @@ impl Flows {
     /// Closes a flow that is open.
     pub(crate) fn close(&mut self, flow: u8) -> Result<(), Rule>
         ensures answer { result ≡ close_answer flow self.old }
+        ensures few { OnOk result (flow < 16) }
         ensures ok { OnOk result (self.new ≡ without_flow flow self.old) }
         ensures err { OnErr result (self.new ≡ self.old) }
     {
@@ -79,33 +79,4 @@ impl Flows {
             None => None,
         }
     }
-
-    /// Whether a frame with that heading belongs to the flow with that number, which is the answer.
-    pub(crate) fn admit(&self, flow: u8, heading: &Heading) -> Result<u8, Rule>
-        ensures { result ≡ admitted self.now flow heading.now }
-    {
-        if !is_over(self.proto_at(flow), heading.proto) {
-            return Err(Rule::F12);
-        }
-        if !same_end(heading.remote, self.remote) {
-            return Err(Rule::F13);
-        }
-        Ok(flow)
-    }
-}
-
-fn is_over(held: Option<Proto>, proto: Proto) -> bool
-    ensures { result ≡ spec.is_over held proto }
-{
-    match (held, proto) {
-        (Some(Proto::Tcp), Proto::Tcp) => true,
-        (Some(Proto::Udp), Proto::Udp) => true,
-        _ => false,
-    }
-}
-
-fn same_end(one: Endpoint, other: Endpoint) -> bool
-    ensures { result ≡ spec.same_end one other }
-{
-    one.addr == other.addr && one.port == other.port
 }

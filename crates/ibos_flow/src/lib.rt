@@ -4,11 +4,14 @@
 
 mod flows;
 mod heading;
+mod instances;
 mod laws;
+mod ports;
 mod table;
 
 pub use heading::{read_in, read_out};
 pub use laws::flows_are_found;
+pub use ports::PortPlace;
 pub use table::FlowTable;
 
 #[cfg(test)]

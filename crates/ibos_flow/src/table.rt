@@ -1,39 +1,38 @@
-// The flows of all instances.
+// The flows of all instances, and the places of their ports.
 ghost use Rattle.std.specs.Prelude.{◌≡◌, ◌≢◌, ◌<◌, None, Some, IfOk, IfSome, OnOk, OnErr};
 ghost use Rattle.std.specs.Option.{option_map};
 ghost use Rattle.ibos_kinds.specs.declared.names.Instance.{Instance};
+ghost use Rattle.ibos_kinds.specs.Flows.{admitted_by, bind_answer, close_answer};
+ghost use Rattle.ibos_kinds.specs.Flows.{no_flows, with_flow, without_flow};
 ghost use Rattle.ibos_kinds.specs.Limits.{IsNamed};
 ghost use Rattle.ibos_kinds.specs.Parties.{same};
-ghost use Rattle.ibos_flow.specs.Flows as spec;
-ghost use Rattle.ibos_kinds.specs.Flows.{admitted_by, bind_answer, close_answer};
-ghost use Rattle.ibos_flow.specs.Flows.{bound_by, checked};
-ghost use Rattle.ibos_kinds.specs.Flows.{no_flows, with_flow, without_flow};
-ghost use Rattle.ibos_flow.specs.Flows.{found};
+ghost use Rattle.ibos_kinds.specs.Ports.{port_of};
+ghost use Rattle.ibos_flow.specs.Flows.{bound_by, checked, found};
+ghost use Rattle.ibos_flow.specs.Ports.{ArePlaces};
 
-use crate::flows::Flows;
+use crate::instances::Instances;
+use crate::ports::{PortPlace, Ports};
 use ibos_kinds::{Endpoint, Heading, Instance, Memory, Proto, Rule, instance_of_port};
 use std::alloc::Global;
 use std::marker::Model;
 
-// 32 instances of each of 64 tabs.
-const PLACES: usize = 2048;
-
 /// The flows of the instances that were added and not ended. Each has one other end, its origin's,
-/// and binds at most 16 flows in its life.
+/// and binds at most 16 flows in its life. A frame's flow is found at the place of its port.
 #[derive(Drop)]
 pub struct FlowTable {
-    places: Vec<Option<Flows>>,
+    instances: Instances,
+    ports: Ports,
 }
 
 impl Model for FlowTable {
-    ghost use Rattle.std.specs.Prelude.{◌≡◌, length};
     ghost use Rattle.ibos_flow.specs.Flows.{Table};
+    ghost use Rattle.ibos_flow.specs.Ports.{ArePlaced};
 
     ghost Value = { Table };
 
-    ghost view = { λ t. t.places.items };
+    ghost view = { λ t. t.instances };
 
-    ghost invariant = { λ t. length t.places.items ≡ 2048 };
+    ghost invariant = { λ t. ArePlaced t.instances t.ports };
 }
 
 impl FlowTable {
@@ -41,11 +40,9 @@ impl FlowTable {
     pub fn new(alloc: Global) -> Result<FlowTable, Memory>
         ensures { IfOk result (λ table. (who : Instance) → bound_by table who ≡ None) }
     {
-        let mut places = Vec::with_capacity(alloc, PLACES)?;
-        'filled: for _place in 0..PLACES {
-            places.push_reserved(None);
-        }
-        Ok(FlowTable { places })
+        let instances = Instances::new(alloc)?;
+        let ports = Ports::new(alloc)?;
+        Ok(FlowTable { instances, ports })
     }
 
     /// Adds an instance without flows, whose other end is that.
@@ -56,7 +53,7 @@ impl FlowTable {
         ensures others { (q : Instance) → q ≢ who → bound_by self.new q ≡ bound_by self.old q }
         ensures err { OnErr result (self.new ≡ self.old) }
     {
-        self.places[place_of(who)] = Some(Flows::new(remote));
+        self.instances.begin(who, remote);
         Ok(())
     }
 
@@ -66,7 +63,8 @@ impl FlowTable {
         ensures own { bound_by self.new who ≡ None }
         ensures others { (q : Instance) → q ≢ who → bound_by self.new q ≡ bound_by self.old q }
     {
-        self.places[place_of(who)] = None;
+        self.instances.end(who);
+        self.ports.unbind_all(who);
     }
 
     /// Binds a flow of an instance over a protocol, and answers its number: the count of those that
@@ -80,10 +78,15 @@ impl FlowTable {
         ensures others { (q : Instance) → q ≢ who → bound_by self.new q ≡ bound_by self.old q }
         ensures err { OnErr result (self.new ≡ self.old) }
     {
-        match &mut self.places[place_of(who)] {
-            Some(flows) => flows.bind(proto),
-            None => unreachable!(),
-        }
+        let remote = self.instances.remote(who);
+        let flow = self.instances.bind(who, proto)?;
+        let place = PortPlace {
+            bound: true,
+            proto,
+            remote,
+        };
+        self.ports.set(who, flow, place);
+        Ok(flow)
     }
 
     /// Closes a flow of an instance. N2 exactly where it isn't open.
@@ -97,10 +100,9 @@ impl FlowTable {
         ensures others { (q : Instance) → q ≢ who → bound_by self.new q ≡ bound_by self.old q }
         ensures err { OnErr result (self.new ≡ self.old) }
     {
-        match &mut self.places[place_of(who)] {
-            Some(flows) => flows.close(flow),
-            None => unreachable!(),
-        }
+        self.instances.close(who, flow)?;
+        self.ports.unbind(who, flow);
+        Ok(())
     }
 
     /// The other end of an instance's flows.
@@ -108,10 +110,7 @@ impl FlowTable {
         requires { bound_by self.now who ≢ None }
         ensures { IfSome (bound_by self.now who) (λ bound. result ≡ bound.remote) }
     {
-        match &self.places[place_of(who)] {
-            Some(flows) => flows.remote(),
-            None => unreachable!(),
-        }
+        self.instances.remote(who)
     }
 
     /// The flow that a frame with this heading belongs to. F12 exactly where no open flow has its
@@ -138,17 +137,24 @@ impl FlowTable {
         if !is_same(owner, who) {
             return Err(Rule::F12);
         }
-        self.admit(who, flow, heading)
+        self.admit(owner, flow, heading)
     }
 
+    /// One place for each port from 32,768 on: that of port p stands at p - 32,768.
+    pub fn places(&self) -> &[PortPlace]
+        ensures { ArePlaces self.now result.now }
+    {
+        self.ports.as_slice()
+    }
+
+    // The answer of the flow whose port the heading has, by that port's place alone.
     fn admit(&self, who: Instance, flow: u8, heading: &Heading) -> Result<u8, Rule>
-        requires { IsNamed who }
+        requires named { IsNamed who }
+        requires few { flow < 16 }
+        requires port { port_of who flow ≡ heading.now.port }
         ensures { result ≡ admitted_by (bound_by self.now who) flow heading.now }
     {
-        match &self.places[place_of(who)] {
-            Some(flows) => flows.admit(flow, heading),
-            None => Err(Rule::F12),
-        }
+        self.ports.admit(flow, heading)
     }
 }
 
@@ -156,13 +162,4 @@ fn is_same(one: Instance, other: Instance) -> bool
     ensures { result ≡ same one other }
 {
     one.tab == other.tab && one.ord == other.ord
-}
-
-// Where an instance's flows stand.
-fn place_of(who: Instance) -> usize
-    requires { IsNamed who }
-    ensures place { result ≡ spec.place_of who }
-    ensures within { result < 2048 }
-{
-    32 * usize::from(who.tab) + usize::from(who.ord)
 }

@@ -58,3 +58,21 @@ fn frames_find_their_flows(rt: HostRuntime) -> Result<(), Fail> {
     assert_eq!(rt; table.bind(who, Proto::Udp), Ok(2));
     Ok(())
 }
+
+#[test]
+fn ports_have_their_places(rt: HostRuntime) -> Result<(), Fail> {
+    let who = Instance { tab: 1, ord: 0 };
+    let mut table = FlowTable::new(rt.alloc())?;
+    table.begin(who, REMOTE)?;
+    assert_eq!(rt; table.bind(who, Proto::Udp), Ok(0));
+    let places = table.places();
+    let wanted = PortPlace {
+        bound: true,
+        proto: Proto::Udp,
+        remote: REMOTE,
+    };
+    assert_eq!(rt; places.len(), 32_768);
+    assert_eq!(rt; places[512], wanted);
+    assert_eq!(rt; places.iter().filter(|place| place.bound).count(), 1);
+    Ok(())
+}

@@ -1,44 +1,20 @@
-use Rattle.std.proofs.Common.{◌≡◌, ◌≢◌, Option, Some, None, sym, ◌∙◌, ap, subst}
-use Rattle.std.specs.Prelude.{IfSome}
-use Rattle.std.specs.Option.{option_map}
-use Rattle.ibos_kinds.specs.Flows.{Bound, with_flow, bind_answer}
+use Rattle.std.proofs.Common.{◌≡◌, ◌≢◌, length, List, None, sym, subst}
+use Rattle.ibos_flow.specs.declared.ports.PortPlace.{PortPlace}
 use Rattle.ibos_flow.specs.Flows.{Table, bound_by}
-use Rattle.ibos_flow.proofs.Places.{held, not_held, named_of, then_ok}
+use Rattle.ibos_flow.specs.Ports.{ArePlaced}
+use Rattle.ibos_flow.proofs.Places.{named_of}
+use Rattle.ibos_flow.proofs.PortPlaces.{bound_placed}
 use Rattle.ibos_flow.proofs.table.FlowTable.bind.Goals as goal
 
-pub place_of-requires : goal.place_of-requires
-place_of-requires c = named_of c.args.self.now c.args.who c.requires
+pub set-requires-clause-who : goal.set-requires-clause-who
+set-requires-clause-who c = named_of c.args.self.now c.args.who c.requires
 
-pub unreachable-requires : goal.unreachable-requires
-unreachable-requires c =
-    let named = named_of c.args.self.now c.args.who c.requires in
-    let none = not_held c.self.inside.places.items c.args.who c.place_of.result c.index_mut.result.now c.place_of.ensures.place named c.self.invariant c.index_mut.ensures.value c.in-None.is in
-    c.requires (sym (ap (λ (t : Table). bound_by t c.args.who) c.self.view_is) ∙ none)
-
-pub returns-clause-answer : goal.returns-clause-answer
-returns-clause-answer c =
-    let named = named_of c.args.self.now c.args.who c.requires in
-    let at = held c.self.inside.places.items c.args.who c.place_of.result c.index_mut.result.now c.in-Some.flows c.place_of.ensures.place named c.self.invariant c.index_mut.ensures.value c.in-Some.is in
-    let was : bound_by c.args.self.now c.args.who ≡ Some c.in-Some.flows = sym (ap (λ (t : Table). bound_by t c.args.who) c.self.view_is) ∙ at.was in
-    let P : Option Bound → Type 0 = λ x. IfSome x (λ bound. c.bind.result ≡ bind_answer bound) in
-    subst P (sym was) c.bind.ensures.answer
-
-pub returns-clause-open : goal.returns-clause-open
-returns-clause-open c =
-    let named = named_of c.args.self.now c.args.who c.requires in
-    let at = held c.self.inside.places.items c.args.who c.place_of.result c.index_mut.result.now c.in-Some.flows c.place_of.ensures.place named c.self.invariant c.index_mut.ensures.value c.in-Some.is in
-    let P : Option Bound → Type 0 = λ x. x ≢ None in
-    subst P (sym (at.own (Some c.bind.new.self))) (λ e. cc)
-
-pub returns-clause-own : goal.returns-clause-own
-returns-clause-own c =
-    let named = named_of c.args.self.now c.args.who c.requires in
-    let at = held c.self.inside.places.items c.args.who c.place_of.result c.index_mut.result.now c.in-Some.flows c.place_of.ensures.place named c.self.invariant c.index_mut.ensures.value c.in-Some.is in
-    let was : bound_by c.args.self.now c.args.who ≡ Some c.in-Some.flows = sym (ap (λ (t : Table). bound_by t c.args.who) c.self.view_is) ∙ at.was in
-    then_ok c.bind.result (λ is. at.own (Some c.bind.new.self) ∙ ap (λ (b : Bound). Some b) is ∙ sym (ap (λ (x : Option Bound). option_map (with_flow c.args.proto) x) was)) c.bind.ensures.ok
-
-pub returns-clause-others : goal.returns-clause-others
-returns-clause-others c q other =
-    let named = named_of c.args.self.now c.args.who c.requires in
-    let at = held c.self.inside.places.items c.args.who c.place_of.result c.index_mut.result.now c.in-Some.flows c.place_of.ensures.place named c.self.invariant c.index_mut.ensures.value c.in-Some.is in
-    at.others (Some c.bind.new.self) q other ∙ ap (λ (t : Table). bound_by t q) c.self.view_is
+pub invariant_of-self-2 : goal.invariant_of-self-2
+invariant_of-self-2 c =
+    let who = c.args.who in
+    let named = named_of c.args.self.now who c.requires in
+    let T : Table → Type 0 = λ t. bound_by t who ≢ None in
+    let there : bound_by c.self.inside.instances who ≢ None = subst T (sym c.self.view_is) c.requires in
+    let S : List PortPlace → Type 0 = λ places. length places ≡ 32768 in
+    let P : List PortPlace → Type 0 = λ places. ArePlaced c.bind.new.self places in
+    subst P (sym c.set.ensures.places) (bound_placed c.self.inside.instances c.bind.new.self c.self.inside.ports who c.in_ok-flow.flow c.args.proto c.remote-remote.result named (subst S c.set.ensures.places c.set.ensures.count) c.self.invariant there c.remote-remote.ensures c.in_ok-flow.ensures.answer c.in_ok-flow.ensures.own c.bind.ensures.others)

@@ -1,13 +1,9 @@
-use Rattle.std.proofs.Common.{None, ◌∙◌, ap, arith}
-use Rattle.ibos_flow.specs.Flows.{Table, bound_by}
-use Rattle.ibos_flow.proofs.Places.{bound-set_same, bound-set_other, named_of}
+use Rattle.ibos_flow.proofs.Places.{named_of}
+use Rattle.ibos_flow.proofs.PortPlaces.{ended_placed}
 use Rattle.ibos_flow.proofs.table.FlowTable.end.Goals as goal
 
-pub place_of-requires : goal.place_of-requires
-place_of-requires c = named_of c.args.self.now c.args.who c.requires
+pub unbind_all-requires : goal.unbind_all-requires
+unbind_all-requires c = named_of c.args.self.now c.args.who c.requires
 
-pub returns-clause-own : goal.returns-clause-own
-returns-clause-own c = bound-set_same c.self.inside.places.items c.args.who c.place_of.result None c.place_of.ensures.place (named_of c.args.self.now c.args.who c.requires) (omega (arith, c.place_of.ensures.within, c.self.invariant))
-
-pub returns-clause-others : goal.returns-clause-others
-returns-clause-others c q other = bound-set_other c.self.inside.places.items c.args.who q c.place_of.result None c.place_of.ensures.place (named_of c.args.self.now c.args.who c.requires) other ∙ ap (λ (t : Table). bound_by t q) c.self.view_is
+pub invariant_of-self : goal.invariant_of-self
+invariant_of-self c = ended_placed c.self.inside.instances c.end.new.self c.self.inside.ports c.unbind_all.new.self c.args.who (named_of c.args.self.now c.args.who c.requires) c.self.invariant c.end.ensures.own c.end.ensures.others c.unbind_all.ensures.own c.unbind_all.ensures.others

@@ -1,9 +1,10 @@
-use Rattle.std.proofs.Common.{◌≡◌, ◌∙◌, ap, arith, replicate, None}
-use Rattle.ibos_flow.specs.Flows.{Table, bound_by}
-use Rattle.ibos_flow.proofs.Places.{bound-nil}
+use Rattle.std.proofs.Common.{List, sym, subst}
+use Rattle.ibos_flow.specs.declared.ports.PortPlace.{PortPlace}
+use Rattle.ibos_flow.specs.Ports.{ArePlaced}
+use Rattle.ibos_flow.proofs.PortPlaces.{none_placed}
 use Rattle.ibos_flow.proofs.table.FlowTable.new.Goals as goal
 
-pub returns : goal.returns
-returns c who =
-    let all : c.filled._place ≡ 2048 = omega arith in
-    ap (λ (t : Table). bound_by t who) (c.filled.invariant.items ∙ ap (λ n. replicate n None) all) ∙ bound-nil who
+pub invariant_of-result : goal.invariant_of-result
+invariant_of-result c =
+    let P : List PortPlace → Type 0 = λ places. ArePlaced c.in_ok-instances.instances places in
+    subst P (sym c.in_ok-ports.ensures) (none_placed c.in_ok-instances.instances c.in_ok-instances.ensures)

@@ -1,9 +1,9 @@
-use Rattle.std.proofs.Common.{◌≡◌, Option, Some, None, sym, ◌∙◌, ap, subst}
+use Rattle.std.proofs.Common.{◌≡◌, Option, Some, sym, ◌∙◌, ap, subst}
 use Rattle.std.specs.Prelude.{IfSome}
 use Rattle.ibos_kinds.specs.Flows.{Bound}
 use Rattle.ibos_flow.specs.Flows.{Table, bound_by}
 use Rattle.ibos_flow.proofs.Places.{held, not_held, named_of}
-use Rattle.ibos_flow.proofs.table.FlowTable.remote.Goals as goal
+use Rattle.ibos_flow.proofs.instances.Instances.remote.Goals as goal
 
 pub place_of-requires : goal.place_of-requires
 place_of-requires c = named_of c.args.self.now c.args.who c.requires

@@ -1,6 +1,6 @@
 use Rattle.std.proofs.Common.{◌≡◌, replicate, None, vec_len, ◌≤◌}
 use Rattle.std.specs.Vec.{vec_capacity}
-use Rattle.ibos_flow.proofs.table.FlowTable.new.Given as goal
+use Rattle.ibos_flow.proofs.instances.Instances.new.Given as goal
 
 -- the table is filled with empty places, in the room that it has
 abbrev pub invariant-filled : goal.invariant-filled
