@@ -22,6 +22,21 @@ pub struct Entry {
 }
 
 /// The places of a capture's frames, in the order of the entries. It holds none of their bytes.
+///
+/// # Examples
+///
+/// ```
+/// use ibos_capture::{CaptureFault, Index};
+/// use std::alloc::Global;
+///
+/// fn first_frame(alloc: Global, capture: &[u8]) -> Result<Option<(u64, u32)>, CaptureFault> {
+///     let index = Index::read(alloc, capture)?;
+///     if index.len() == 0 {
+///         return Ok(None);
+///     }
+///     Ok(Some(index.frame(0)))
+/// }
+/// ```
 #[derive(Debug, Drop)]
 pub struct Index {
     entries: Vec<Entry>,

@@ -49,6 +49,23 @@ impl From<Memory> for CookieFault {
 
 /// A table from origins to their cookie jars. The limits of a jar are 20 cookies, and 4,096 bytes
 /// in all its names and values.
+///
+/// # Examples
+///
+/// ```
+/// use ibos_cookie::{CookieFault, Jars};
+/// use std::process::Abort;
+///
+/// fn remember(rt: &(impl Abort + AllocGlobal)) -> Result<(), CookieFault> {
+///     let mut jars = Jars::new(rt.alloc());
+///     jars.set(b"http://a.example", b"theme=dark")?;
+///     jars.set(b"http://a.example", b"lang=en")?;
+///     let text = jars.text(rt.alloc(), b"http://a.example")?;
+///     assert_eq!(rt; text.as_slice(), b"theme=dark; lang=en".as_slice());
+///     assert!(rt; jars.text(rt.alloc(), b"http://b.example")?.is_empty());
+///     Ok(())
+/// }
+/// ```
 #[derive(Drop)]
 pub struct Jars {
     alloc: Global,

@@ -11,6 +11,18 @@ use std::marker::Model;
 const IPV4: u16 = 0x0800;
 
 /// An Ethernet II frame that carries IPv4, borrowed. Contracts see the frame's bytes.
+///
+/// # Examples
+///
+/// ```
+/// use ibos_eth::EthView;
+/// use ibos_kinds::Rule;
+///
+/// fn is_for(mac: u64, frame: &[u8]) -> Result<bool, Rule> {
+///     let view = EthView::new(frame)?;
+///     Ok(view.dest() == mac)
+/// }
+/// ```
 #[derive(Debug, Drop)]
 pub struct EthView<'a> {
     frame: &'a [u8],

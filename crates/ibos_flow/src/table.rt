@@ -18,6 +18,34 @@ use std::marker::Model;
 
 /// The flows of the instances that were added and not ended. Each has one other end, its origin's,
 /// and binds at most 16 flows in its life. A frame's flow is found at the place of its port.
+///
+/// # Examples
+///
+/// ```
+/// use ibos_flow::FlowTable;
+/// use ibos_kinds::{Endpoint, Heading, Instance, Memory, Proto, Rule};
+/// use std::process::Abort;
+///
+/// fn bind(rt: &(impl Abort + AllocGlobal)) -> Result<(), Memory> {
+///     let who = Instance { tab: 0, ord: 0 };
+///     let remote = Endpoint {
+///         addr: 0xc633_6401,
+///         port: 80,
+///     };
+///     let mut flows = FlowTable::new(rt.alloc())?;
+///     flows.begin(who, remote)?;
+///     assert_eq!(rt; flows.bind(who, Proto::Tcp), Ok(0));
+///     let heading = Heading {
+///         proto: Proto::Tcp,
+///         port: 32_768,
+///         remote,
+///     };
+///     assert_eq!(rt; flows.find(&heading), Ok((who, 0)));
+///     assert_eq!(rt; flows.close(who, 0), Ok(()));
+///     assert_eq!(rt; flows.find(&heading), Err(Rule::F12));
+///     Ok(())
+/// }
+/// ```
 #[derive(Drop)]
 pub struct FlowTable {
     instances: Instances,

@@ -39,6 +39,24 @@ pub enum ClickDone {
 
 /// What is typed into the entry line, printable bytes in an array with room for 1,024, and who gets
 /// the next key. No call takes memory.
+///
+/// # Examples
+///
+/// ```
+/// use ibos_focus::{Focus, KeyDone, Spot};
+/// use ibos_kinds::{Key, Rule};
+/// use std::process::Abort;
+///
+/// fn type_keys(rt: &impl Abort) {
+///     let mut focus = Focus::new();
+///     assert_eq!(rt; focus.key(Key::Byte(b'a'), false), Ok(KeyDone::Edited));
+///     assert_eq!(rt; focus.entry(), b"a".as_slice());
+///     // No tab is active that an Enter could open something in.
+///     assert_eq!(rt; focus.key(Key::Enter, false), Err(Rule::U10));
+///     focus.to(Spot::Content);
+///     assert_eq!(rt; focus.key(Key::Byte(b'b'), true), Ok(KeyDone::ToPage(b'b')));
+/// }
+/// ```
 #[derive(Drop)]
 pub struct Focus {
     entry: ArrayVec<u8, 1024>,

@@ -20,6 +20,27 @@ use std::marker::Model;
 /// them the content of one instance, or blanks if none is chosen or it has ended. Each instance
 /// that was added has a content of its own, which is kept while others are shown. Only `new` and
 /// `begin` take memory.
+///
+/// # Examples
+///
+/// ```
+/// use ibos_frame::Screen;
+/// use ibos_kinds::{Instance, Memory, Rule};
+/// use std::process::Abort;
+///
+/// fn draw(rt: &(impl Abort + AllocGlobal)) -> Result<(), Memory> {
+///     let who = Instance { tab: 5, ord: 0 };
+///     let mut screen = Screen::new(rt.alloc())?;
+///     screen.begin(who)?;
+///     screen.show(Some(who));
+///     // One row of two cells, at the corner of the content and over its edge.
+///     assert_eq!(rt; screen.draw(who, 0, 0, 1, 2, b"hi"), Ok(()));
+///     assert_eq!(rt; screen.draw(who, 0, 79, 1, 2, b"hi"), Err(Rule::P3));
+///     // The content begins under the three rows of the chrome.
+///     assert!(rt; screen.pixels()[3 * 80..].starts_with(b"hi"));
+///     Ok(())
+/// }
+/// ```
 #[derive(Drop)]
 pub struct Screen {
     alloc: Global,

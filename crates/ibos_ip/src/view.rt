@@ -19,6 +19,18 @@ const FRAGMENT: u16 = 0x3FFF;
 
 /// An IPv4 datagram (RFC 791) that is whole, and what follows it, borrowed. Contracts see the
 /// bytes.
+///
+/// # Examples
+///
+/// ```
+/// use ibos_ip::IpView;
+/// use ibos_kinds::{Dir, Rule};
+///
+/// fn sender(payload: &[u8]) -> Result<u32, Rule> {
+///     let view = IpView::new(payload, Dir::In)?;
+///     Ok(view.src())
+/// }
+/// ```
 #[derive(Debug, Drop)]
 pub struct IpView<'a> {
     bytes: &'a [u8],

@@ -24,6 +24,27 @@ use std::marker::Model;
 
 /// The kernel of one run: the half of the pages, with its host table, tabs, jars, stored objects,
 /// screen and focus, and the half that frames pass. It can't be dropped: it holds buffers.
+///
+/// # Examples
+///
+/// ```
+/// use ibos_device::Model8254x;
+/// use ibos_kernel::Kernel;
+/// use ibos_kinds::{Act, Head, Memory, Outcome, Rule};
+/// use ibos_origin::Hosts;
+/// use std::process::Abort;
+///
+/// fn first_act(rt: &(impl Abort + AllocGlobal), hosts: Hosts) -> Result<(), Memory> {
+///     let mut nic = Model8254x::new();
+///     let mut kernel = Kernel::new(rt.alloc(), hosts, &mut nic)?;
+///     let mut out = Outcome::new(rt.alloc());
+///     let stepped = kernel.step(rt.alloc(), &Act::Close { tab: 0 }, &mut nic, &mut out);
+///     kernel.close();
+///     stepped?;
+///     assert_eq!(rt; out.head, Head::Denied(Rule::U2));
+///     Ok(())
+/// }
+/// ```
 pub struct Kernel {
     parts: Parts,
     net: Net,

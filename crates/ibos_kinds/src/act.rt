@@ -6,6 +6,23 @@ use crate::{Bytes, Handle, Instance, Key, Proto, Side};
 
 /// One event of one actor. The user opens, switches and closes tabs, presses keys, clicks and
 /// looks; the processes of an instance do the rest.
+///
+/// # Examples
+///
+/// ```
+/// use ibos_kinds::{Act, Instance, Party, Proto, actor};
+/// use std::process::Abort;
+///
+/// fn bind(rt: &impl Abort) {
+///     let who = Instance { tab: 5, ord: 0 };
+///     let act = Act::Bind {
+///         who,
+///         proto: Proto::Tcp,
+///     };
+///     assert!(rt; act.fits());
+///     assert_eq!(rt; actor(&act), Party::Page(who));
+/// }
+/// ```
 #[derive(Debug, PartialEq, Eq, Drop)]
 pub enum Act {
     /// The user opens a URL in a tab.

@@ -21,6 +21,19 @@ impl<T: Drop> From<AllocFailed<T>> for Memory {
 }
 
 /// A vector of bytes, which contracts see as the list of them.
+///
+/// # Examples
+///
+/// ```
+/// use ibos_kinds::{Bytes, Memory};
+/// use std::alloc::Global;
+///
+/// fn greeting(alloc: Global, name: &[u8]) -> Result<Bytes, Memory> {
+///     let mut text = Bytes::from_slice(alloc, b"hello ")?;
+///     text.push_slice(name)?;
+///     Ok(text)
+/// }
+/// ```
 #[derive(Debug, Drop)]
 pub struct Bytes {
     inner: Vec<u8>,

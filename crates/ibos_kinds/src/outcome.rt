@@ -167,6 +167,22 @@ impl Items {
 }
 
 /// The outcome of an act: a head for its actor, and the items in the order in which they are told.
+///
+/// # Examples
+///
+/// ```
+/// use ibos_kinds::{Head, Instance, Item, Memory, Outcome};
+/// use std::process::Abort;
+///
+/// fn ended(rt: &(impl Abort + AllocGlobal)) -> Result<(), Memory> {
+///     let who = Instance { tab: 5, ord: 0 };
+///     let mut outcome = Outcome::new(rt.alloc());
+///     outcome.push(Item::Ended { who })?;
+///     assert_eq!(rt; outcome.head, Head::Ok);
+///     assert_eq!(rt; outcome.items.as_slice(), [Item::Ended { who }].as_slice());
+///     Ok(())
+/// }
+/// ```
 #[derive(Debug, Drop)]
 pub struct Outcome {
     pub head: Head,

@@ -38,6 +38,35 @@ pub struct FrameSpec {
 /// options, is not to be fragmented, and lives for 64 hops; that of TCP has sequence and
 /// acknowledgement 1, the flags PSH and ACK, and a window of 8,192 bytes. Both checksums are right,
 /// and no byte follows the payload.
+///
+/// # Examples
+///
+/// ```
+/// use ibos_kinds::{Bytes, Endpoint, Memory, Proto};
+/// use ibos_make::{FrameSpec, build};
+/// use std::process::Abort;
+///
+/// fn datagram(rt: &(impl Abort + AllocGlobal)) -> Result<(), Memory> {
+///     let spec = FrameSpec {
+///         to: 0x0200_0000_0001,
+///         from: 0x0200_0000_00fe,
+///         src: Endpoint {
+///             addr: 0xc633_6401,
+///             port: 80,
+///         },
+///         dst: Endpoint {
+///             addr: 0xc000_020a,
+///             port: 32_768,
+///         },
+///         proto: Proto::Udp,
+///         payload: Bytes::from_slice(rt.alloc(), b"hi")?,
+///     };
+///     let frame = build(rt.alloc(), &spec)?;
+///     // The headers of Ethernet, IPv4 and UDP have 14, 20 and 8 bytes.
+///     assert_eq!(rt; frame.len(), 44);
+///     Ok(())
+/// }
+/// ```
 pub fn build(alloc: Global, spec: &FrameSpec) -> Result<Bytes, Memory>
     requires payload { length spec.now.payload ≤ 1460 }
     requires to { spec.now.to < 2 ^ 48 }

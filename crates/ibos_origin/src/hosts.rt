@@ -16,6 +16,25 @@ const MAX_TABLE: usize = 4_194_304;
 const MAX_HOSTS: usize = 4096;
 
 /// The host table of a run: this machine's addresses, and the hosts that pages may name.
+///
+/// # Examples
+///
+/// ```
+/// use ibos_origin::{Hosts, HostsFault};
+/// use std::process::Abort;
+///
+/// const TABLE: &[u8] = b"self 192.0.2.10 02:00:00:00:00:01
+/// gateway 02:00:00:00:00:fe
+/// host a.example 198.51.100.1
+/// ";
+///
+/// fn look_up(rt: &(impl Abort + AllocGlobal)) -> Result<(), HostsFault> {
+///     let hosts = Hosts::read(rt.alloc(), TABLE)?;
+///     assert_eq!(rt; hosts.address(b"a.example"), Some(0xc633_6401));
+///     assert_eq!(rt; hosts.address(b"b.example"), None);
+///     Ok(())
+/// }
+/// ```
 #[derive(Debug, Drop)]
 pub struct Hosts {
     local: Local,

@@ -39,6 +39,20 @@ const MAX_URL: usize = 1024;
 const MAX_ORIGIN: usize = 72;
 
 /// An allowed URL, its origin and where it leads.
+///
+/// # Examples
+///
+/// ```
+/// use ibos_origin::{Hosts, Page, UrlFault};
+/// use std::process::Abort;
+///
+/// fn read(rt: &(impl Abort + AllocGlobal), hosts: &Hosts) -> Result<(), UrlFault> {
+///     let page = Page::read(rt.alloc(), hosts, b"http://a.example:8080/x")?;
+///     assert_eq!(rt; page.origin(), b"http://a.example:8080".as_slice());
+///     assert_eq!(rt; page.endpoint().port, 8080);
+///     Ok(())
+/// }
+/// ```
 #[derive(Debug, Drop)]
 pub struct Page {
     url: Bytes,

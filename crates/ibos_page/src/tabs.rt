@@ -23,6 +23,19 @@ pub enum Moved {
 
 /// The 64 tabs, their instances, and which tab is active. A tab has one live instance at a time,
 /// the newest, and at most 32 in all. No call but `new` takes memory.
+///
+/// # Examples
+///
+/// ```
+/// use ibos_kinds::{Instance, Rule};
+/// use ibos_origin::Page;
+/// use ibos_page::Tabs;
+///
+/// fn open(tabs: &mut Tabs, page: Page) -> Result<Instance, Rule> {
+///     tabs.may_start(5)?;
+///     Ok(tabs.start(5, page))
+/// }
+/// ```
 #[derive(Drop)]
 pub struct Tabs {
     pages: Pages,

@@ -28,6 +28,31 @@ const PLACES: usize = 2048;
 
 /// The inboxes of the instances that were added and not ended: sixteen buffers each, and in them
 /// the frames that the instance has not done with. They can't be dropped.
+///
+/// # Examples
+///
+/// ```
+/// use ibos_kinds::{Instance, Memory, Rule};
+/// use ibos_pool::Pool;
+/// use ibos_recv::{Inboxes, fresh_areas};
+/// use std::process::Abort;
+///
+/// fn add(rt: &(impl Abort + AllocGlobal)) -> Result<(), Memory> {
+///     let who = Instance { tab: 5, ord: 0 };
+///     let mut pool = Pool::new(rt.alloc())?;
+///     pool.grow_instance()?;
+///     // Called for what it says of the area that was added.
+///     fresh_areas();
+///     let mut inboxes = Inboxes::new(rt.alloc())?;
+///     let begun = inboxes.begin(who, 1, &mut pool);
+///     if begun.is_ok() {
+///         assert_eq!(rt; inboxes.unread(who), 0);
+///         assert_eq!(rt; inboxes.done(who), Err(Rule::N6));
+///     }
+///     inboxes.close(&mut pool);
+///     begun
+/// }
+/// ```
 pub struct Inboxes {
     places: Vec<Option<InboxRing>>,
 }

@@ -51,6 +51,32 @@ const MAX_HOSTS_LEN: usize = 4_194_304;
 ///
 /// The device is at reset, and is asked for nothing until the files are read. In the clauses W is
 /// what it wrote for the frames that came in, by its log at the end.
+///
+/// # Examples
+///
+/// ```
+/// use ibos_device::Model8254x;
+/// use ibos_kinds::{Bytes, MemCabinet, MemSink, Memory};
+/// use ibos_run::{Status, run};
+/// use std::process::Abort;
+///
+/// const HOSTS: &[u8] = b"self 192.0.2.10 02:00:00:00:00:01\ngateway 02:00:00:00:00:fe\n";
+///
+/// fn run_script(rt: &(impl Abort + AllocGlobal)) -> Result<(), Memory> {
+///     let alloc = rt.alloc();
+///     let bytes = |text: &[u8]| Bytes::from_slice(alloc, text);
+///     let mut cabinet = MemCabinet::new(alloc);
+///     cabinet.put(bytes(b"hosts")?, bytes(HOSTS)?)?;
+///     cabinet.put(bytes(b"script")?, bytes(b"user close 0\n")?)?;
+///     let words = [bytes(b"run")?, bytes(b"hosts")?, bytes(b"script")?];
+///     let mut nic = Model8254x::new();
+///     let mut sink = MemSink::new(alloc, 4096)?;
+///     let status = run(alloc, &words, &mut cabinet, &mut nic, &mut sink);
+///     assert_eq!(rt; status, Status::Done);
+///     assert_eq!(rt; sink.taken(), b"1 denied U2 TabClosed\nend 1\n".as_slice());
+///     Ok(())
+/// }
+/// ```
 pub fn run<C: Cabinet, N: Nic, K: Sink>(
     alloc: Global,
     words: &[Bytes],

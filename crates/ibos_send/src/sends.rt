@@ -59,6 +59,33 @@ const LONGEST_FRAME: u32 = 1514;
 
 /// The transmit buffers of the instances that were added and not ended, and the sends that were
 /// accepted. They can't be dropped.
+///
+/// # Examples
+///
+/// ```
+/// use ibos_kinds::{Instance, Memory, Rule};
+/// use ibos_pool::{Mem, Pool};
+/// use ibos_send::{Sends, areas_are_fresh};
+/// use std::process::Abort;
+///
+/// fn add(rt: &(impl Abort + AllocGlobal)) -> Result<(), Memory> {
+///     let who = Instance { tab: 5, ord: 0 };
+///     let mut pool = Pool::new(rt.alloc())?;
+///     let mut mem = Mem::new(rt.alloc())?;
+///     pool.grow_instance()?;
+///     mem.grow_instance()?;
+///     // Called for what it says of the area that was added.
+///     areas_are_fresh();
+///     let mut sends = Sends::new(rt.alloc())?;
+///     let begun = sends.begin(who, 1, &mut pool);
+///     if begun.is_ok() {
+///         assert_eq!(rt; sends.fill(who, 0, 2047, b"a", &mut mem), Ok(()));
+///         assert_eq!(rt; sends.fill(who, 0, 2048, b"a", &mut mem), Err(Rule::N5));
+///     }
+///     sends.close(&mut pool);
+///     begun
+/// }
+/// ```
 pub struct Sends {
     homes: HomeTable,
     list: SendList,

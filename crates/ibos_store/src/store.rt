@@ -23,6 +23,26 @@ const MAX_OBJECT: usize = 2_048;
 /// The stored objects of each origin, and the requests for them of the instances that were added
 /// and not ended. An origin stores at most 65,536 bytes of keys and newest versions, where a lost
 /// version counts as before its loss.
+///
+/// # Examples
+///
+/// ```
+/// use ibos_kinds::Instance;
+/// use ibos_store::{Store, StoreFault};
+/// use std::process::Abort;
+///
+/// fn keep(rt: &(impl Abort + AllocGlobal)) -> Result<(), StoreFault> {
+///     let who = Instance { tab: 5, ord: 0 };
+///     let origin = b"http://a.example";
+///     let mut store = Store::new(rt.alloc());
+///     store.begin(who)?;
+///     let version = store.put(origin, b"draft", b"hello")?;
+///     let request = store.ask(who, b"draft")?;
+///     let bytes = store.answer(rt.alloc(), who, origin, request, origin, b"draft", version)?;
+///     assert_eq!(rt; bytes.as_slice(), b"hello".as_slice());
+///     Ok(())
+/// }
+/// ```
 #[derive(Drop)]
 pub struct Store {
     alloc: Global,

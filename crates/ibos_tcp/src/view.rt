@@ -22,6 +22,19 @@ const TCP_HEADER: usize = 20;
 const UDP_HEADER: usize = 8;
 
 /// A TCP segment or a UDP datagram, borrowed. Contracts see its protocol and its bytes.
+///
+/// # Examples
+///
+/// ```
+/// use ibos_ip::IpView;
+/// use ibos_kinds::{Dir, Rule};
+/// use ibos_tcp::SegView;
+///
+/// fn ports(ip: &IpView) -> Result<(u16, u16), Rule> {
+///     let view = SegView::new(ip.protocol(), ip.src(), ip.dst(), ip.payload(), Dir::In)?;
+///     Ok((view.src_port(), view.dst_port()))
+/// }
+/// ```
 #[derive(Debug, Drop)]
 pub struct SegView<'a> {
     proto: Proto,
