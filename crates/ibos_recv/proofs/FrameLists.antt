@@ -8,17 +8,17 @@ from-length mem held at [] = refl
 from-length mem held at (len ∷ lens) = ap suc (from-length mem held (at + 1) lens)
 
 -- frames are the same where their buffers are
-pub from-same : (mem mem' : Memory) (held : List Held) (at : ℕ) (lens : List ℕ)
-    → ((k : ℕ) → k < length lens → (len : ℕ) → bytes_in mem' (slice_get held ((at + k) % 16)) len ≡ bytes_in mem (slice_get held ((at + k) % 16)) len)
-    → frames_from mem' held at lens ≡ frames_from mem held at lens
-from-same mem mem' held at [] each = refl
-from-same mem mem' held at (len ∷ lens) each =
-    let first : bytes_in mem' (slice_get held (at % 16)) len ≡ bytes_in mem (slice_get held (at % 16)) len = subst (λ n. bytes_in mem' (slice_get held (n % 16)) len ≡ bytes_in mem (slice_get held (n % 16)) len) (omega arith) (each 0 (omega arith) len) in
-    let rest : frames_from mem' held (at + 1) lens ≡ frames_from mem held (at + 1) lens = from-same mem mem' held (at + 1) lens
+pub from-same : (mem mem' : Memory) (held held' : List Held) (at : ℕ) (lens : List ℕ)
+    → ((k : ℕ) → k < length lens → (len : ℕ) → bytes_in mem' (slice_get held' ((at + k) % 16)) len ≡ bytes_in mem (slice_get held ((at + k) % 16)) len)
+    → frames_from mem' held' at lens ≡ frames_from mem held at lens
+from-same mem mem' held held' at [] each = refl
+from-same mem mem' held held' at (len ∷ lens) each =
+    let first : bytes_in mem' (slice_get held' (at % 16)) len ≡ bytes_in mem (slice_get held (at % 16)) len = subst (λ n. bytes_in mem' (slice_get held' (n % 16)) len ≡ bytes_in mem (slice_get held (n % 16)) len) (omega arith) (each 0 (omega arith) len) in
+    let rest : frames_from mem' held' (at + 1) lens ≡ frames_from mem held (at + 1) lens = from-same mem mem' held held' (at + 1) lens
     (λ k below l.
     let shift : at + suc k ≡ (at + 1) + k = omega arith in
-    subst (λ n. bytes_in mem' (slice_get held (n % 16)) l ≡ bytes_in mem (slice_get held (n % 16)) l) shift (each (suc k) (omega arith) l)) in
-    ap (λ b. b ∷ frames_from mem' held (at + 1) lens) first ∙ ap (λ fs. bytes_in mem (slice_get held (at % 16)) len ∷ fs) rest
+    subst (λ n. bytes_in mem' (slice_get held' (n % 16)) l ≡ bytes_in mem (slice_get held (n % 16)) l) shift (each (suc k) (omega arith) l)) in
+    ap (λ b. b ∷ frames_from mem' held' (at + 1) lens) first ∙ ap (λ fs. bytes_in mem (slice_get held (at % 16)) len ∷ fs) rest
 
 -- one more frame comes behind the others
 pub from-push : (mem : Memory) (held : List Held) (at : ℕ) (lens : List ℕ) (len : ℕ)

@@ -1,6 +1,5 @@
 mod BellItems
 mod BellSteps
-mod Fillings
 mod FrameLists
 mod FreshAreas
 mod Givings
@@ -8,6 +7,8 @@ mod Hearings
 mod Landings
 mod OpenPlaces
 mod PartedHands
+mod Passings
+mod Spendings
 mod TableFrames
 mod TablePlaces
 mod Takings

@@ -1,12 +1,10 @@
 -- A place of the table is looked at, and gets another inbox.
-use Rattle.std.proofs.Common.{◌≡◌, ◌≢◌, ◌↔◌, ℕ, ◌<◌, Bool, true, false, List, ◌++◌, length, refl, sym, ◌∙◌, ap, subst, arith, get_or}
+use Rattle.std.proofs.Common.{◌≡◌, ◌≢◌, ◌↔◌, ℕ, ◌<◌, Bool, true, false, List, ◌∷◌, ◌++◌, length, refl, sym, ◌∙◌, ap, subst, arith, get_or}
 use Rattle.std.specs.Prelude.{Option, Some, None, slice_set}
-use Rattle.std.proofs.lemmas.List.{get_or_read}
-use Rattle.ibos_pool.proofs.HandLemmas.{not_true}
+use Rattle.std.proofs.lemmas.List.{append_assoc, get_or_read}
 use Rattle.ibos_recv.proofs.PartedHands.{clash, comes_first, front_of, goes_back, in_left, in_right, kept_in, none_shared, rotated}
-use Rattle.ibos_recv.proofs.TableFrames.{inbox-same}
-use Rattle.ibos_recv.proofs.TablePlaces.{Around, around, inbox-at, inbox-elsewhere, inbox-set_other, inbox-set_same, place_within, same_is, same_self}
-use Rattle.ibos_recv.proofs.Words.{AreAtHand, AreFilled, Held, Inbox, Inboxes, Instance, IsNamed, Memory, Names, Place, frames_at, frames_of, has_place, held_at, held_in, inbox_by, inbox_place, same}
+use Rattle.ibos_recv.proofs.TablePlaces.{Around, around, inbox-at, inbox-set_other, inbox-set_same, place_within, same_is, same_self}
+use Rattle.ibos_recv.proofs.Words.{AreAtHand, Held, Inbox, Inboxes, Instance, IsNamed, IsPassed, Memory, Names, Place, frames_at, frames_of, has_place, held_at, held_in, inbox_by, inbox_place, same}
 
 -- What is there, and what another inbox in its place makes of the table.
 pub record IsOpenAt (t now : Inboxes) (who : Instance) (at : ℕ) (x : Option Inbox) : Type 0 where
@@ -17,7 +15,6 @@ pub record IsOpenAt (t now : Inboxes) (who : Instance) (at : ℕ) (x : Option In
   pub back : List Held
   pub held : held_in now ≡ front ++ (held_at x ++ back)
   pub set : (y : Option Inbox) → held_in (slice_set t at y) ≡ front ++ (held_at y ++ back)
-  pub elsewhere : (q : Instance) → q ≢ who → (p : Place) → has_place (held_at (inbox_by now q)) p ≡ true → has_place (front ++ back) p ≡ true
 
 pub opened : (t now : Inboxes) (who : Instance) (at : ℕ) (x read : Option Inbox) → t ≡ now → length t ≡ 2048 → at ≡ inbox_place who → IsNamed who → read ≡ get_or t at read → read ≡ x → IsOpenAt t now who at x
 opened t now who at x read same size is named reads found =
@@ -32,7 +29,6 @@ opened t now who at x read same size is named reads found =
       back = around.1;
       held = ap held_in (sym same) ∙ around.2.was ∙ ap (λ (o : Option Inbox). around.0 ++ (held_at o ++ around.1)) there;
       set = around.2.set;
-      elsewhere = λ q other p is_in. inbox-elsewhere t who q at is named other p (around.0 ++ around.1) around.2.others (subst (λ (s : Inboxes). has_place (held_at (inbox_by s q)) p ≡ true) (sym same) is_in);
     }
 
 pub clash_some : (b : Inbox) → Some b ≡ None → ⊥
@@ -63,23 +59,19 @@ module _ (t now : Inboxes) (who : Instance) (at : ℕ) (b : Inbox) (open' : IsOp
     pub open-hands : AreAtHand names mem (held_in now) → AreAtHand names mem b.held
     open-hands hands = front_of names mem b.held (open'.front ++ open'.back) (rotated names mem open'.front b.held open'.back (subst (AreAtHand names mem) open'.held hands))
 
-    pub filled-all : (mem' : Memory) → AreFilled b.held mem mem' → AreFilled (held_in now) mem mem'
-    filled-all mem' filled = record {
-      rings = filled.rings;
-      others = λ p place out. filled.others p place (not_true _ (λ is. clash (has_place (held_in now) p)
-          (subst (λ hs. has_place hs p ≡ true) (sym open'.held) (in_right open'.front (b.held ++ open'.back) p (in_left b.held open'.back p is))) out));
-      lent = filled.lent;
-      areas = filled.areas;
-    }
-
-    -- no other instance's frame is written over
-    pub frames-elsewhere : (mem' : Memory) (y : Option Inbox) (q : Instance) → q ≢ who → AreAtHand names mem (held_in now) → AreFilled b.held mem mem' → frames_of mem' (slice_set t at y) q ≡ frames_of mem now q
-    frames-elsewhere mem' y q other hands filled =
-        let parted = rotated names mem open'.front b.held open'.back (subst (AreAtHand names mem) open'.held hands) in
-        ap (λ x. frames_at mem' x) (open'.others y q other) ∙ inbox-same mem mem' (inbox_by now q) (λ p is.
-        let there = open'.elsewhere q other p is in
-        let kept = kept_in names mem (b.held ++ (open'.front ++ open'.back)) p parted (in_right b.held (open'.front ++ open'.back) p there) in
-        filled.others p kept.place (not_true _ (λ is'. none_shared names mem b.held (open'.front ++ open'.back) parted p is' there)))
+  -- what passes to its buffers passes to those of the table
+  pub passed-all : (c : Inbox) (h : Held) (pool pool' : Names) → IsPassed h b.held c.held pool pool' → IsPassed h (held_in now) (held_in (slice_set t at (Some c))) pool pool'
+  passed-all c h pool pool' passed = record {
+    free = passed.free;
+    front = open'.front ++ passed.front;
+    back = passed.back ++ open'.back;
+    was = open'.held ∙ ap (λ hs. open'.front ++ (hs ++ open'.back)) passed.was ∙ around_one passed.free;
+    now = open'.set (Some c) ∙ ap (λ hs. open'.front ++ (hs ++ open'.back)) passed.now ∙ around_one (record { name = passed.free.name; place = h.place });
+    exchanged = passed.exchanged;
+  }
+    where
+      around_one : (x : Held) → open'.front ++ ((passed.front ++ x ∷ passed.back) ++ open'.back) ≡ (open'.front ++ passed.front) ++ x ∷ (passed.back ++ open'.back)
+      around_one x = ap (λ hs. open'.front ++ hs) (append_assoc passed.front (x ∷ passed.back) open'.back) ∙ sym (append_assoc open'.front passed.front (x ∷ (passed.back ++ open'.back)))
 
 -- an instance begins
 pub begin-hands : (t now : Inboxes) (who : Instance) (at : ℕ) (b : Inbox) (names : Names) (mem : Memory) (more : List Held) → IsOpenAt t now who at None

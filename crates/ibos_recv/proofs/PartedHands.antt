@@ -110,16 +110,3 @@ module _ (names : Names) (mem : Memory) where
       by_test : (b : Bool) → same_place p x.place ≡ b → (has_place xs p ≡ true → IsKept mem p) → IsKept mem p
       by_test true same rest = subst (IsKept mem) (sym (same_from_test p x.place same)) hands.1
       by_test false differ rest = rest (sym (ap (λ b. b || has_place xs p) differ) ∙ is)
-
-  -- two of them are at two places
-  first_differs : (x : Held) (xs : List Held) (j : ℕ) (h g : Held) → has_place xs x.place ≡ false → Some x ≡ Some h → slice_get xs j ≡ Some g → h.place ≡ g.place → ⊥
-  first_differs x xs j h g out at at' same =
-      let is : x ≡ h = ap (λ o. unwrap_or o x) at in
-      clash (has_place xs x.place) (subst (λ q. has_place xs q ≡ true) (sym same ∙ sym (ap (λ (k : Held). k.place) is)) (in_list xs j g at')) out
-
-  pub places_differ : (xs : List Held) (i j : ℕ) (h g : Held) → AreAtHand names mem xs → i ≢ j → slice_get xs i ≡ Some h → slice_get xs j ≡ Some g → h.place ≡ g.place → ⊥
-  places_differ [] i j h g hands differ at at' same = let e : None ≡ Some h = at in cc
-  places_differ (x ∷ xs) zero zero h g hands differ at at' same = differ refl
-  places_differ (x ∷ xs) zero (suc j) h g hands differ at at' same = first_differs x xs j h g hands.2 at at' same
-  places_differ (x ∷ xs) (suc i) zero h g hands differ at at' same = first_differs x xs i g h hands.2 at' at (sym same)
-  places_differ (x ∷ xs) (suc i) (suc j) h g hands differ at at' same = places_differ xs i j h g hands.3 (λ e. differ (ap suc e)) at at' same

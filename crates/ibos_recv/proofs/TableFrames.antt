@@ -25,7 +25,7 @@ bytes-same mem mem' held each k len = by_item (slice_get held k) refl
 -- one inbox's frames are the same where its buffers are
 pub inbox-same : (mem mem' : Memory) (x : Option Inbox) → ((p : Place) → has_place (held_at x) p ≡ true → buffer_at mem' p ≡ buffer_at mem p) → frames_at mem' x ≡ frames_at mem x
 inbox-same mem mem' None each = refl
-inbox-same mem mem' (Some b) each = from-same mem mem' b.held b.head b.lens (λ k below len. bytes-same mem mem' b.held each ((b.head + k) % 16) len)
+inbox-same mem mem' (Some b) each = from-same mem mem' b.held b.held b.head b.lens (λ k below len. bytes-same mem mem' b.held each ((b.head + k) % 16) len)
 
 pub frames-same : (mem mem' : Memory) (t : Inboxes) → ((p : Place) → has_place (held_in t) p ≡ true → buffer_at mem' p ≡ buffer_at mem p) → (who : Instance) → frames_of mem' t who ≡ frames_of mem t who
 frames-same mem mem' t each who = inbox-same mem mem' (inbox_by t who) (λ p is. each p (inbox-where t who p is))

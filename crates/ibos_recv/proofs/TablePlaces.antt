@@ -77,7 +77,6 @@ inbox-nil who = by_test (has_inbox_place who) refl
 pub record IsAround (t : Inboxes) (k : ℕ) (x : Option Inbox) (front back : List Held) : Type 0 where
   pub was : held_in t ≡ front ++ (held_at x ++ back)
   pub set : (y : Option Inbox) → held_in (slice_set t k y) ≡ front ++ (held_at y ++ back)
-  pub others : (j : ℕ) → j ≢ k → (p : Place) → has_place (held_at (get_or t j None)) p ≡ true → has_place (front ++ back) p ≡ true
 
 abbrev pub Around : Inboxes → ℕ → Option Inbox → Type 0
 Around t k x = (front : List Held) × (back : List Held) × IsAround t k x front back
@@ -97,7 +96,7 @@ inbox-where t who p is = by_test (has_inbox_place who) is
     by_test false is = absurd (clash false is refl)
 
 around_next : (x : Option Inbox) (t : Inboxes) (k : ℕ) → Around t k (get_or t k None) → Around (x ∷ t) (suc k) (get_or t k None)
-around_next x t k rest = (held_at x ++ rest.0, rest.1, record { was = was; set = set; others = others })
+around_next x t k rest = (held_at x ++ rest.0, rest.1, record { was = was; set = set })
   where
     was : held_at x ++ held_in t ≡ (held_at x ++ rest.0) ++ (held_at (get_or t k None) ++ rest.1)
     was = ap (λ zs. held_at x ++ zs) rest.2.was ∙ sym (append_assoc (held_at x) rest.0 (held_at (get_or t k None) ++ rest.1))
@@ -105,32 +104,10 @@ around_next x t k rest = (held_at x ++ rest.0, rest.1, record { was = was; set =
     set : (y : Option Inbox) → held_at x ++ held_in (slice_set t k y) ≡ (held_at x ++ rest.0) ++ (held_at y ++ rest.1)
     set y = ap (λ zs. held_at x ++ zs) (rest.2.set y) ∙ sym (append_assoc (held_at x) rest.0 (held_at y ++ rest.1))
 
-    others : (j : ℕ) → j ≢ suc k → (p : Place) → has_place (held_at (get_or (x ∷ t) j None)) p ≡ true → has_place ((held_at x ++ rest.0) ++ rest.1) p ≡ true
-    others zero differ p is = in_left (held_at x ++ rest.0) rest.1 p (in_left (held_at x) rest.0 p is)
-    others (suc j) differ p is =
-        let on : (held_at x ++ rest.0) ++ rest.1 ≡ held_at x ++ (rest.0 ++ rest.1) = append_assoc (held_at x) rest.0 rest.1 in
-        subst (λ zs. has_place zs p ≡ true) (sym on) (in_right (held_at x) (rest.0 ++ rest.1) p (rest.2.others j (λ e. differ (ap suc e)) p is))
-
 pub around : (t : Inboxes) (k : ℕ) → k < length t → Around t k (get_or t k None)
 around [] k below = absurd (omega (arith, below))
-around (x ∷ t) zero below = ([], held_in t, record { was = refl; set = λ y. refl; others = others })
-  where
-    others : (j : ℕ) → j ≢ 0 → (p : Place) → has_place (held_at (get_or (x ∷ t) j None)) p ≡ true → has_place (held_in t) p ≡ true
-    others zero differ p is = absurd (differ refl)
-    others (suc j) differ p is = in_table t j p is
+around (x ∷ t) zero below = ([], held_in t, record { was = refl; set = λ y. refl })
 around (x ∷ t) (suc k) below = around_next x t k (around t k (omega (arith, below)))
-
--- what another instance's inbox has is elsewhere in the table
-pub inbox-elsewhere : (t : Inboxes) (who q : Instance) (at : ℕ) → at ≡ inbox_place who → IsNamed who → q ≢ who → (p : Place) (rest : List Held)
-    → ((j : ℕ) → j ≢ at → (p : Place) → has_place (held_at (get_or t j None)) p ≡ true → has_place rest p ≡ true) → has_place (held_at (inbox_by t q)) p ≡ true → has_place rest p ≡ true
-unfolding inbox_by
-inbox-elsewhere t who q at is named other p rest others is_in = by_test (has_inbox_place q) refl is_in
-  where
-    by_test : (low : Bool) → has_inbox_place q ≡ low → has_place (held_at (if low then get_or t (inbox_place q) None else None)) p ≡ true → has_place rest p ≡ true
-    by_test true low is_in =
-        let below : IsNamed q = (grind (arith, nat_tests, low), grind (arith, nat_tests, low)) in
-        others (inbox_place q) (λ e. other (same_place q who below named (e ∙ is))) p is_in
-    by_test false high is_in = absurd (clash false is_in refl)
 
 -- what a table of nothing holds
 pub held-nil : (n : ℕ) → held_in (replicate n None) ≡ []

@@ -101,6 +101,11 @@ is_inbox_name area name = name.area == area && (nat_le 4 name.index && nat_lt na
 abbrev pub new_inbox : Names → ℕ → Inbox
 new_inbox names area = record { held = inbox_buffers names area; head = 0; lens = [] }
 
+-- the buffers of the same names, in the same order, at the places that the pool has for them
+abbrev pub as_placed : Names → List Held → List Held
+as_placed names held = map (λ (h : Held). record { name = h.name; place = place_of names h.name })
+    held
+
 -- an instance's area, of which no one holds a buffer for its inbox
 pub record IsFresh (names : Names) (area : ℕ) : Type 0 where
   pub some : 0 < area

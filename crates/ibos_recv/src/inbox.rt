@@ -1,10 +1,11 @@
 // The buffers of one inbox.
 ghost use Rattle.std.specs.Prelude.{◌≡◌, ◌+◌, ◌<◌, ◌≤◌, ◌++◌, [], ◌∷◌, ℕ, List, length, drop};
-ghost use Rattle.std.specs.Prelude.{slice_index_or, if◌then◌else◌, true, IfOk, OnOk, OnErr};
+ghost use Rattle.std.specs.Prelude.{slice_index_or, slice_set, if◌then◌else◌, true, IfOk, OnOk};
+ghost use Rattle.std.specs.Prelude.{OnErr};
 ghost use Rattle.ibos_pool.specs.declared.name.Name.{Name as BufferName};
-ghost use Rattle.ibos_pool.specs.Hands.{AreAtHand};
-ghost use Rattle.ibos_pool.specs.Memory.{IsKept, IsWritten, Memory as Areas, buffer_at};
-ghost use Rattle.ibos_pool.specs.Names.{Held, Names, is_taken, place_of};
+ghost use Rattle.ibos_pool.specs.Hands.{AreAtHand, AreExchanged, no_buffer};
+ghost use Rattle.ibos_pool.specs.Memory.{Memory as Areas, bytes_at};
+ghost use Rattle.ibos_pool.specs.Names.{Held, IsLoanOf, Names, is_taken, place_of};
 ghost use Rattle.ibos_pool.specs.Places.{address_of};
 ghost use Rattle.ibos_pool.specs.Sizes.{buffer_bytes};
 ghost use Rattle.ibos_nic.specs.Registers.{Registers};
@@ -12,7 +13,7 @@ ghost use Rattle.ibos_mediate.specs.Mediated.{Mediated};
 ghost use Rattle.ibos_mediate.specs.Relation.{MediatesBut};
 ghost use Rattle.ibos_recv.specs.Inboxes.{AreFreshIn, AreHeld, AreReturned, IsFresh, done_answer};
 ghost use Rattle.ibos_recv.specs.Inboxes.{inbox_buffers, inbox_frames, is_inbox_name, new_inbox};
-ghost use Rattle.ibos_recv.specs.Serves.{AreFilled};
+ghost use Rattle.ibos_recv.specs.Serves.{IsPassed};
 
 use arrayvec::ArrayVec;
 use ibos_kinds::{Memory, Rule};
@@ -176,37 +177,45 @@ impl InboxRing {
         &mem.bytes(loan)[..len]
     }
 
-    /// Puts a frame behind the newest.
-    pub(crate) fn push(&mut self, frame: &[u8], mem: &mut Mem)
+    /// Puts a frame behind the newest: the loan that it lies in and a free buffer exchange their
+    /// places. Answers the loan of the same name.
+    pub(crate) fn push(&mut self, loan: Loan, len: u16, pool: &mut Pool) -> Loan
         requires room { length self.old.lens < 16 }
-        requires size { length frame.now ≤ buffer_bytes }
-        requires hands { (names : Names) × AreAtHand names mem.old self.old.held }
-        ensures after { self.new ≡ record self.old {
-          lens = self.old.lens ++ length frame.now ∷ [];
-        } }
-        ensures frames { inbox_frames mem.new self.new ≡ inbox_frames mem.old self.old
-            ++ frame.now ∷ [] }
-        ensures filled { AreFilled self.old.held mem.old mem.new }
+        requires size { len ≤ buffer_bytes }
+        requires loan { IsLoanOf pool.old loan }
+        requires hands { AreHeld pool.old self.old.held }
+        ensures lens { self.new.lens ≡ self.old.lens ++ len ∷ [] }
+        ensures frames { (mem : Areas) → inbox_frames mem self.new ≡ inbox_frames mem self.old
+            ++ bytes_at mem (address_of loan.place) len ∷ [] }
+        ensures passed { IsPassed loan self.old.held self.new.held pool.old pool.new }
+        ensures name { result.name ≡ loan.name }
+        ensures is_pools { IsLoanOf pool.new result }
     {
-        let loan = &self.loans[(self.head + self.lens.len()) % BUFFERS];
-        write(frame, loan, mem);
-        self.lens.push(frame.len() as u16);
+        let at = (self.head + self.lens.len()) % BUFFERS;
+        let loan = exchange_at(&mut self.loans, at, loan, pool);
+        self.lens.push(len);
+        loan
     }
 }
 
-// Writes a frame into a buffer, from its first byte on.
-fn write(frame: &[u8], loan: &Loan, mem: &mut Mem)
-    requires kept { IsKept mem.old loan.now.place }
-    requires size { length frame.now ≤ buffer_bytes }
-    ensures { IsWritten mem.old mem.new (address_of loan.now.place) (frame.now
-        ++ drop (length frame.now) (buffer_at mem.old loan.now.place)) }
+// Lets a loan and one of some buffers exchange their places. Answers the loan of the same name.
+fn exchange_at(loans: &mut Vec<Loan>, at: usize, loan: Loan, pool: &mut Pool) -> Loan
+    requires at { at < length loans.old.items }
+    requires loan { IsLoanOf pool.old loan }
+    requires buffer { IsLoanOf pool.old (slice_index_or loans.old.items at no_buffer) }
+    ensures items { loans.new.items ≡ slice_set loans.old.items at (record {
+      name = (slice_index_or loans.old.items at no_buffer).name;
+      place = loan.place;
+    }) }
+    ensures exchanged { AreExchanged pool.old pool.new loan.name
+        (slice_index_or loans.old.items at no_buffer).name }
+    ensures name { result.name ≡ loan.name }
+    ensures is_pools { IsLoanOf pool.new result }
 {
-    write_front(mem.bytes_mut(loan), frame);
-}
-
-fn write_front(buffer: &mut [u8], bytes: &[u8])
-    requires { length bytes.now ≤ length buffer.old }
-    ensures { buffer.new ≡ bytes.now ++ drop (length bytes.now) buffer.old }
-{
-    buffer[..bytes.len()].copy_from_slice(bytes);
+    let free = loans.swap_remove(at);
+    let (loan, filled) = pool.exchange(loan, free);
+    loans.push_reserved(filled);
+    let last = loans.len() - 1;
+    loans.swap(at, last);
+    loan
 }

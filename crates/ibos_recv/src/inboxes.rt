@@ -6,8 +6,9 @@ ghost use Rattle.ibos_kinds.specs.declared.names.Instance.{Instance};
 ghost use Rattle.ibos_kinds.specs.Limits.{IsNamed};
 ghost use Rattle.ibos_pool.specs.declared.name.Name.{Name};
 ghost use Rattle.ibos_pool.specs.Hands.{AreAtHand};
-ghost use Rattle.ibos_pool.specs.Memory.{Memory as Areas};
-ghost use Rattle.ibos_pool.specs.Names.{Held, Names, is_taken, place_of};
+ghost use Rattle.ibos_pool.specs.Memory.{Memory as Areas, bytes_at};
+ghost use Rattle.ibos_pool.specs.Names.{Held, IsLoanOf, Names, is_taken, place_of};
+ghost use Rattle.ibos_pool.specs.Places.{address_of};
 ghost use Rattle.ibos_pool.specs.Sizes.{buffer_bytes};
 ghost use Rattle.ibos_nic.specs.Registers.{Registers};
 ghost use Rattle.ibos_mediate.specs.Mediated.{Mediated};
@@ -15,11 +16,11 @@ ghost use Rattle.ibos_mediate.specs.Relation.{MediatesBut};
 ghost use Rattle.ibos_recv.specs.Inboxes.{AreFreshIn, AreHeld, AreReturned, IsFresh, done_answer};
 ghost use Rattle.ibos_recv.specs.Inboxes.{frames_of, held_at, held_in, inbox_by, inbox_place};
 ghost use Rattle.ibos_recv.specs.Inboxes.{is_inbox_name, new_inbox, unread_of};
-ghost use Rattle.ibos_recv.specs.Serves.{AreFilled};
+ghost use Rattle.ibos_recv.specs.Serves.{IsPassed};
 
 use crate::inbox::InboxRing;
 use ibos_kinds::{Instance, Memory, Rule};
-use ibos_pool::{Mem, Pool};
+use ibos_pool::{Loan, Mem, Pool};
 use std::alloc::Global;
 use std::marker::Model;
 
@@ -171,25 +172,26 @@ impl Inboxes {
         }
     }
 
-    /// Puts a frame behind the newest of an instance.
-    pub(crate) fn push(&mut self, who: Instance, frame: &[u8], mem: &mut Mem)
+    /// Puts a frame behind the newest of an instance: the loan that it lies in and a free buffer of
+    /// the inbox exchange their places. Answers the loan of the same name.
+    pub(crate) fn push(&mut self, who: Instance, loan: Loan, len: u16, pool: &mut Pool) -> Loan
         requires open { inbox_by self.old who ≢ None }
         requires room { unread_of self.old who < 16 }
-        requires size { length frame.now ≤ buffer_bytes }
-        requires hands { (names : Names) × AreAtHand names mem.old (held_in self.old) }
-        ensures own { frames_of mem.new self.new who ≡ frames_of mem.old self.old who
-            ++ frame.now ∷ [] }
+        requires size { len ≤ buffer_bytes }
+        requires loan { IsLoanOf pool.old loan }
+        requires hands { AreHeld pool.old (held_in self.old) }
+        ensures own { (mem : Areas) → frames_of mem self.new who ≡ frames_of mem self.old who
+            ++ bytes_at mem (address_of loan.place) len ∷ [] }
         ensures unread { unread_of self.new who ≡ unread_of self.old who + 1 }
         ensures others { (q : Instance) → q ≢ who → inbox_by self.new q ≡ inbox_by self.old q }
-        ensures frames { (q : Instance) → q ≢ who → frames_of mem.new self.new q
-            ≡ frames_of mem.old self.old q }
         ensures open { (q : Instance) → (inbox_by self.new q ≡ None)
             ↔ (inbox_by self.old q ≡ None) }
-        ensures held { held_in self.new ≡ held_in self.old }
-        ensures filled { AreFilled (held_in self.old) mem.old mem.new }
+        ensures passed { IsPassed loan (held_in self.old) (held_in self.new) pool.old pool.new }
+        ensures name { result.name ≡ loan.name }
+        ensures is_pools { IsLoanOf pool.new result }
     {
         match &mut self.places[place_of(who)] {
-            Some(inbox) => inbox.push(frame, mem),
+            Some(inbox) => inbox.push(loan, len, pool),
             None => unreachable!(),
         }
     }

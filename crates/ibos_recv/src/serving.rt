@@ -10,8 +10,8 @@ ghost use Rattle.ibos_kinds.specs.Parties.{is_to};
 ghost use Rattle.ibos_pool.specs.declared.name.Ring.{Ring};
 ghost use Rattle.ibos_pool.specs.declared.name.Ring.TheVariants.{Receive};
 ghost use Rattle.ibos_pool.specs.Hands.{AreAtHand};
-ghost use Rattle.ibos_pool.specs.Memory.{IsKept, bytes_at};
-ghost use Rattle.ibos_pool.specs.Names.{Held, Names};
+ghost use Rattle.ibos_pool.specs.Memory.{bytes_at};
+ghost use Rattle.ibos_pool.specs.Names.{Held};
 ghost use Rattle.ibos_pool.specs.Places.{address_of};
 ghost use Rattle.ibos_pool.specs.Sizes.{buffer_bytes};
 ghost use Rattle.ibos_nic.specs.Registers.{Registers};
@@ -20,8 +20,8 @@ ghost use Rattle.ibos_mediate.specs.Mediated.{ring_of};
 ghost use Rattle.ibos_mediate.specs.Relation.{AreOwned, AreUnheld, IsAtDevice, IsInMemory};
 ghost use Rattle.ibos_mediate.specs.Relation.{completed};
 ghost use Rattle.ibos_flow.specs.Flows.{bound_by};
-ghost use Rattle.ibos_recv.specs.Inboxes.{frames_of, held_in, inbox_by, unread_of};
-ghost use Rattle.ibos_recv.specs.Serves.{AreFilled, IsServed, bell_over, landing};
+ghost use Rattle.ibos_recv.specs.Inboxes.{as_placed, frames_of, held_in, inbox_by, unread_of};
+ghost use Rattle.ibos_recv.specs.Serves.{IsServed, IsSpent, bell_over, landing};
 
 use crate::inbox::BUFFERS;
 use crate::inboxes::Inboxes;
@@ -30,7 +30,7 @@ use ibos_flow::{FlowTable, read_in};
 use ibos_kinds::{Bytes, Handle, Instance, Item, Local, Memory, Outcome, Rule};
 use ibos_mediate::{
     Mediator, bells_end, frames_are_counted, gifts_keep_the_relation,
-    other_changes_keep_the_frames, other_changes_keep_the_relation, takes_end_a_frame,
+    other_changes_keep_the_frames, takes_end_a_frame,
 };
 use ibos_pool::{Loan, Mem, Pool};
 use std::alloc::Global;
@@ -39,6 +39,9 @@ use std::alloc::Global;
 /// items of a receive bell: for each frame first the buffer's new handle, and then the frame for
 /// the instance that it belongs to, which has it in its inbox from now on, or the first rule that
 /// keeps it from there. The rules are F1, F2, F4 to F13 and F14, in this order.
+///
+/// No byte of the memory is written: a frame passes to its inbox with its place. The receive
+/// buffer's name gets the place of the inbox's free buffer, and is free.
 ///
 /// After want of memory some descriptors were taken back and others not, `out` has some of the
 /// items, and inboxes some of the frames.
@@ -72,7 +75,7 @@ pub fn serve(
         ≡ unsent_frames mem.old med.old.transmit }
     ensures open { (p : Instance) → (inbox_by inboxes.new p ≡ None)
         ↔ (inbox_by inboxes.old p ≡ None) }
-    ensures held { held_in inboxes.new ≡ held_in inboxes.old }
+    ensures held { held_in inboxes.new ≡ as_placed pool.new (held_in inboxes.old) }
     ensures memory { IsInMemory med.new mem.new }
     ensures device { (regs : Registers) → IsAtDevice med.old mem.old regs
         → IsAtDevice med.new mem.new regs }
@@ -83,7 +86,6 @@ pub fn serve(
     ensures served { IsServed (held_in inboxes.old) pool.old pool.new mem.old mem.new }
 {
     // cited for their clauses
-    other_changes_keep_the_relation();
     other_changes_keep_the_frames();
     gifts_keep_the_relation();
     frames_are_counted();
@@ -91,91 +93,102 @@ pub fn serve(
     bells_end();
     bells_agree();
     'served: while let Some((handle, loan, len)) = med.rx_take(pool, mem) {
-        let told = tell(alloc, local, handle, &loan, len, mem, flows, inboxes, out);
-        pool.give(loan);
-        told?;
+        tell(
+            alloc, local, handle, loan, len, pool, mem, flows, inboxes, out,
+        )?;
     }
     Ok(())
 }
 
-// Appends what a bell tells of one frame, and puts it into the inbox that it is for.
+// Appends what a bell tells of one frame, which passes to the inbox that it is for, and gives the
+// loan to the pool.
 fn tell(
     alloc: Global,
     local: &Local,
     handle: Handle,
-    loan: &Loan,
+    loan: Loan,
     len: u16,
-    mem: &mut Mem,
+    pool: &mut Pool,
+    mem: &Mem,
     flows: &FlowTable,
     inboxes: &mut Inboxes,
     out: &mut Outcome,
 ) -> Result<(), Memory>
-    requires kept { IsKept mem.old loan.now.place }
     requires size { len ≤ buffer_bytes }
-    requires hands { (names : Names) × AreAtHand names mem.old (held_in inboxes.old) }
+    requires hands { AreAtHand pool.old mem.now (loan ∷ held_in inboxes.old) }
     requires beside { (p : Instance) → bound_by flows.now p ≢ None → inbox_by inboxes.old p ≢ None }
     ensures head { out.new.head ≡ out.old.head }
     ensures items { OnOk result (out.new.items ≡ out.old.items ++ LentIs handle
         ∷ heard_item (bound_by flows.now) (unread_of inboxes.old)
-        (bytes_at mem.old (address_of loan.now.place) len)
-        (aim_of local.now (bytes_at mem.old (address_of loan.now.place) len)) ∷ []) }
+        (bytes_at mem.now (address_of loan.place) len)
+        (aim_of local.now (bytes_at mem.now (address_of loan.place) len)) ∷ []) }
     ensures unread { OnOk result ((p : Instance) → unread_of inboxes.new p
         ≡ unread_then (bound_by flows.now) (unread_of inboxes.old)
-        (aim_of local.now (bytes_at mem.old (address_of loan.now.place) len)) p) }
-    ensures frames { OnOk result ((p : Instance) → frames_of mem.new inboxes.new p
-        ≡ frames_of mem.old inboxes.old p ++ frames_in (filter (is_to (Page p))
+        (aim_of local.now (bytes_at mem.now (address_of loan.place) len)) p) }
+    ensures frames { OnOk result ((p : Instance) → frames_of mem.now inboxes.new p
+        ≡ frames_of mem.now inboxes.old p ++ frames_in (filter (is_to (Page p))
         (heard_item (bound_by flows.now) (unread_of inboxes.old)
-        (bytes_at mem.old (address_of loan.now.place) len)
-        (aim_of local.now (bytes_at mem.old (address_of loan.now.place) len)) ∷ []))) }
+        (bytes_at mem.now (address_of loan.place) len)
+        (aim_of local.now (bytes_at mem.now (address_of loan.place) len)) ∷ []))) }
     ensures open { (p : Instance) → (inbox_by inboxes.new p ≡ None)
         ↔ (inbox_by inboxes.old p ≡ None) }
-    ensures held { held_in inboxes.new ≡ held_in inboxes.old }
-    ensures filled { AreFilled (held_in inboxes.old) mem.old mem.new }
+    ensures spent { IsSpent (landing (bound_by flows.now) (unread_of inboxes.old)
+        (aim_of local.now (bytes_at mem.now (address_of loan.place) len))) loan
+        (held_in inboxes.old) (held_in inboxes.new) pool.old pool.new }
 {
-    let item = hear(alloc, local, loan, len, mem, flows, inboxes)?;
+    let item = hear(alloc, local, loan, len, pool, mem, flows, inboxes)?;
     out.push(Item::LentIs { handle })?;
     out.push(item)?;
     Ok(())
 }
 
-// The item of a frame, which is put into the inbox that it is for.
+// The item of a frame. Its buffer passes to the inbox that it is for, and its name is free then.
 fn hear(
     alloc: Global,
     local: &Local,
-    loan: &Loan,
+    loan: Loan,
     len: u16,
-    mem: &mut Mem,
+    pool: &mut Pool,
+    mem: &Mem,
     flows: &FlowTable,
     inboxes: &mut Inboxes,
 ) -> Result<Item, Memory>
-    requires kept { IsKept mem.old loan.now.place }
     requires size { len ≤ buffer_bytes }
-    requires hands { (names : Names) × AreAtHand names mem.old (held_in inboxes.old) }
+    requires hands { AreAtHand pool.old mem.now (loan ∷ held_in inboxes.old) }
     requires beside { (p : Instance) → bound_by flows.now p ≢ None → inbox_by inboxes.old p ≢ None }
     ensures item { IfOk result (λ item. item ≡ heard_item (bound_by flows.now)
-        (unread_of inboxes.old) (bytes_at mem.old (address_of loan.now.place) len)
-        (aim_of local.now (bytes_at mem.old (address_of loan.now.place) len))) }
+        (unread_of inboxes.old) (bytes_at mem.now (address_of loan.place) len)
+        (aim_of local.now (bytes_at mem.now (address_of loan.place) len))) }
     ensures unread { OnOk result ((p : Instance) → unread_of inboxes.new p
         ≡ unread_then (bound_by flows.now) (unread_of inboxes.old)
-        (aim_of local.now (bytes_at mem.old (address_of loan.now.place) len)) p) }
-    ensures frames { OnOk result ((p : Instance) → frames_of mem.new inboxes.new p
-        ≡ frames_of mem.old inboxes.old p ++ frames_in (filter (is_to (Page p))
+        (aim_of local.now (bytes_at mem.now (address_of loan.place) len)) p) }
+    ensures frames { OnOk result ((p : Instance) → frames_of mem.now inboxes.new p
+        ≡ frames_of mem.now inboxes.old p ++ frames_in (filter (is_to (Page p))
         (heard_item (bound_by flows.now) (unread_of inboxes.old)
-        (bytes_at mem.old (address_of loan.now.place) len)
-        (aim_of local.now (bytes_at mem.old (address_of loan.now.place) len)) ∷ []))) }
+        (bytes_at mem.now (address_of loan.place) len)
+        (aim_of local.now (bytes_at mem.now (address_of loan.place) len)) ∷ []))) }
     ensures open { (p : Instance) → (inbox_by inboxes.new p ≡ None)
         ↔ (inbox_by inboxes.old p ≡ None) }
-    ensures held { held_in inboxes.new ≡ held_in inboxes.old }
-    ensures filled { AreFilled (held_in inboxes.old) mem.old mem.new }
+    ensures spent { IsSpent (landing (bound_by flows.now) (unread_of inboxes.old)
+        (aim_of local.now (bytes_at mem.now (address_of loan.place) len))) loan
+        (held_in inboxes.old) (held_in inboxes.new) pool.old pool.new }
 {
-    let frame = &mem.bytes(loan)[..usize::from(len)];
+    let frame = &mem.bytes(&loan)[..usize::from(len)];
     match land(local, frame, flows, inboxes) {
         Ok((who, flow)) => {
-            let bytes = Bytes::from_slice(alloc, frame)?;
-            inboxes.push(who, bytes.as_slice(), mem);
-            Ok(Item::Arrived { who, flow, bytes })
+            let bytes = Bytes::from_slice(alloc, frame);
+            let loan = inboxes.push(who, loan, len, pool);
+            pool.give(loan);
+            Ok(Item::Arrived {
+                who,
+                flow,
+                bytes: bytes?,
+            })
         }
-        Err(rule) => Ok(Item::Dropped { rule }),
+        Err(rule) => {
+            pool.give(loan);
+            Ok(Item::Dropped { rule })
+        }
     }
 }
 

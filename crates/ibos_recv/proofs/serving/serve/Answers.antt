@@ -1,103 +1,83 @@
 use Rattle.std.proofs.Common.{List, [], ◌∷◌, ◌++◌, length, refl, sym, ◌∙◌, ap, arith}
 use Rattle.std.proofs.lemmas.Result.{err_from_is_err_and}
+use Rattle.ibos_kinds.specs.Bells.{aim_of}
 use Rattle.ibos_mediate.specs.Frames.{Arrival}
 use Rattle.ibos_flow.specs.Flows.{bound_by}
 use Rattle.ibos_recv.proofs.BellItems.{item_of, told-frames, told-items, told-step}
-use Rattle.ibos_recv.proofs.BellSteps.{IsStep, Laws, State, arrived-step, serving-step, step-of}
+use Rattle.ibos_recv.proofs.BellSteps.{IsStep, Laws, State, serving-step, step-of}
 use Rattle.ibos_recv.proofs.Hearings.{frames_for}
+use Rattle.ibos_recv.proofs.Spendings.{placed-same}
 use Rattle.ibos_recv.proofs.TableFrames.{frames-same}
-use Rattle.ibos_recv.proofs.Words.{Receive, address_of, buffer_bytes, bytes_at, unread_of}
+use Rattle.ibos_recv.proofs.Words.{Receive, address_of, buffer_bytes, bytes_at, held_in, landing, unread_of}
 use Rattle.ibos_recv.proofs.serving.serve.Goals as goal
 
 pub rx_take-requires-clause-owned : goal.rx_take-requires-clause-owned
 rx_take-requires-clause-owned c = c.served.invariant.serving.owned Receive
 
+pub tell-requires-clause-hands : goal.tell-requires-clause-hands
+tell-requires-clause-hands c = c.in-Some.ensures.hands (held_in c.served.inboxes) c.served.invariant.serving.at_hand
+
 pub served-smaller : goal.served-smaller
 served-smaller c =
-    let laws : Laws = record {
-      memory = c.other_changes_keep_the_relation.ensures.memory;
-      device = c.other_changes_keep_the_relation.ensures.device;
-      unheld = c.other_changes_keep_the_relation.ensures.unheld;
-      given_owned = c.gifts_keep_the_relation.ensures.owned;
-      given_unheld = c.gifts_keep_the_relation.ensures.unheld;
-      others = c.bells_end.ensures.others;
-      counted = c.frames_are_counted.ensures.arrivals;
-      completed = c.other_changes_keep_the_frames.ensures.completed;
-      taken_unsent = c.takes_end_a_frame.ensures.receive_unsent;
-      unsent = c.other_changes_keep_the_frames.ensures.unsent;
-      arrivals = c.other_changes_keep_the_frames.ensures.arrivals;
-    } in
-    let first : State = record { med = c.args.med.now; pool = c.args.pool.now; mem = c.args.mem.now; inboxes = c.args.inboxes.now } in
-    let now : State = record { med = c.served.med; pool = c.served.pool; mem = c.served.mem; inboxes = c.served.inboxes } in
-    let next : State = record { med = c.rx_take.new.self; pool = c.give.new.self; mem = c.tell-told.new.mem; inboxes = c.tell-told.new.inboxes } in
-    let a : Arrival = record { handle = c.in-Some.handle; bytes = bytes_at c.rx_take.new.mem (address_of c.in-Some.loan.place) c.in-Some.len } in
-    let taken = c.in-Some.ensures in
-    let step : IsStep c.in-Some.loan a now next c.rx_take.new.mem = step-of first now c.in-Some.loan a c.rx_take.new.self c.rx_take.new.pool c.give.new.self c.rx_take.new.mem c.tell-told.new.mem c.tell-told.new.inboxes
-    taken.taken taken.kept taken.marked taken.arrival taken.bell taken.is_pools taken.hands taken.keeps taken.same_pool c.tell-told.ensures.filled c.tell-told.ensures.open c.tell-told.ensures.held c.give.ensures.claimed in
-    let serving = serving-step laws c.in-Some.loan a first now next c.rx_take.new.mem c.served.invariant.serving step in
-    let arrived = ap (λ (rs : List Arrival). length rs) (arrived-step laws c.in-Some.loan a first now next c.rx_take.new.mem c.served.invariant.serving step) in
+    let arrived = ap (λ (rs : List Arrival). length rs) c.in-Some.ensures.arrival in
     omega (arith, arrived)
 
 pub served-preserved : goal.served-preserved
 served-preserved c =
     let laws : Laws = record {
-      memory = c.other_changes_keep_the_relation.ensures.memory;
-      device = c.other_changes_keep_the_relation.ensures.device;
-      unheld = c.other_changes_keep_the_relation.ensures.unheld;
-      given_owned = c.gifts_keep_the_relation.ensures.owned;
-      given_unheld = c.gifts_keep_the_relation.ensures.unheld;
-      others = c.bells_end.ensures.others;
+      gifts = record {
+        given_owned = c.gifts_keep_the_relation.ensures.owned;
+        given_unheld = c.gifts_keep_the_relation.ensures.unheld;
+        exchanged_owned = c.gifts_keep_the_relation.ensures.exchanged_owned;
+        exchanged_unheld = c.gifts_keep_the_relation.ensures.exchanged_unheld;
+      };
       counted = c.frames_are_counted.ensures.arrivals;
       completed = c.other_changes_keep_the_frames.ensures.completed;
       taken_unsent = c.takes_end_a_frame.ensures.receive_unsent;
-      unsent = c.other_changes_keep_the_frames.ensures.unsent;
-      arrivals = c.other_changes_keep_the_frames.ensures.arrivals;
     } in
     let first : State = record { med = c.args.med.now; pool = c.args.pool.now; mem = c.args.mem.now; inboxes = c.args.inboxes.now } in
     let now : State = record { med = c.served.med; pool = c.served.pool; mem = c.served.mem; inboxes = c.served.inboxes } in
-    let next : State = record { med = c.rx_take.new.self; pool = c.give.new.self; mem = c.tell-told.new.mem; inboxes = c.tell-told.new.inboxes } in
+    let next : State = record { med = c.rx_take.new.self; pool = c.tell.new.pool; mem = c.rx_take.new.mem; inboxes = c.tell.new.inboxes } in
     let a : Arrival = record { handle = c.in-Some.handle; bytes = bytes_at c.rx_take.new.mem (address_of c.in-Some.loan.place) c.in-Some.len } in
     let taken = c.in-Some.ensures in
-    let step : IsStep c.in-Some.loan a now next c.rx_take.new.mem = step-of first now c.in-Some.loan a c.rx_take.new.self c.rx_take.new.pool c.give.new.self c.rx_take.new.mem c.tell-told.new.mem c.tell-told.new.inboxes
-    taken.taken taken.kept taken.marked taken.arrival taken.bell taken.is_pools taken.hands taken.keeps taken.same_pool c.tell-told.ensures.filled c.tell-told.ensures.open c.tell-told.ensures.held c.give.ensures.claimed in
-    let serving = serving-step laws c.in-Some.loan a first now next c.rx_take.new.mem c.served.invariant.serving step in
-    let arrived = arrived-step laws c.in-Some.loan a first now next c.rx_take.new.mem c.served.invariant.serving step in
-    let told = c.in_ok-told.ensures in
+    let lands = landing (bound_by c.args.flows.now) (unread_of c.served.inboxes) (aim_of c.args.local.now a.bytes) in
+    let step : IsStep lands c.in-Some.loan a now next = step-of lands now c.in-Some.loan a c.rx_take.new.self c.rx_take.new.pool c.tell.new.pool c.rx_take.new.mem c.tell.new.inboxes
+    taken.taken taken.kept taken.marked taken.arrival taken.bell taken.is_pools taken.hands taken.keeps taken.same_pool c.tell.ensures.open c.tell.ensures.spent in
+    let told = c.in_ok-tell.ensures in
     let still = frames-same c.served.mem c.rx_take.new.mem c.served.inboxes (λ p is. taken.marked.bytes (address_of p) buffer_bytes) in
     record {
-      serving = serving;
-      told = told-step c.args.local.now (bound_by c.args.flows.now) (λ u v same. c.bells_agree.ensures c.args.local.now (bound_by c.args.flows.now) (bound_by c.args.flows.now) u v (λ p. refl) same) first now next c.args.out.now.items c.served.out.items c.tell-told.new.out.items a arrived told.items told.unread
+      serving = serving-step laws lands c.in-Some.loan a first now next c.served.invariant.serving step;
+      told = told-step c.args.local.now (bound_by c.args.flows.now) (λ u v same. c.bells_agree.ensures c.args.local.now (bound_by c.args.flows.now) (bound_by c.args.flows.now) u v (λ p. refl) same) first now next c.args.out.now.items c.served.out.items c.tell.new.out.items a taken.arrival told.items told.unread
           (λ p. told.frames p ∙ ap (λ fs. fs ++ frames_for p (item_of c.args.local.now (bound_by c.args.flows.now) (unread_of c.served.inboxes) a ∷ [])) (still p)) c.served.invariant.told;
       head = told.head ∙ c.served.invariant.head;
     }
 
 -- out of memory: what holds all along
-pub returns-in_err-told : goal.returns-in_err-told
-returns-in_err-told c =
+pub returns-in_err-tell : goal.returns-in_err-tell
+returns-in_err-tell c =
     let laws : Laws = record {
-      memory = c.other_changes_keep_the_relation.ensures.memory;
-      device = c.other_changes_keep_the_relation.ensures.device;
-      unheld = c.other_changes_keep_the_relation.ensures.unheld;
-      given_owned = c.gifts_keep_the_relation.ensures.owned;
-      given_unheld = c.gifts_keep_the_relation.ensures.unheld;
-      others = c.bells_end.ensures.others;
+      gifts = record {
+        given_owned = c.gifts_keep_the_relation.ensures.owned;
+        given_unheld = c.gifts_keep_the_relation.ensures.unheld;
+        exchanged_owned = c.gifts_keep_the_relation.ensures.exchanged_owned;
+        exchanged_unheld = c.gifts_keep_the_relation.ensures.exchanged_unheld;
+      };
       counted = c.frames_are_counted.ensures.arrivals;
       completed = c.other_changes_keep_the_frames.ensures.completed;
       taken_unsent = c.takes_end_a_frame.ensures.receive_unsent;
-      unsent = c.other_changes_keep_the_frames.ensures.unsent;
-      arrivals = c.other_changes_keep_the_frames.ensures.arrivals;
     } in
     let first : State = record { med = c.args.med.now; pool = c.args.pool.now; mem = c.args.mem.now; inboxes = c.args.inboxes.now } in
     let now : State = record { med = c.served.med; pool = c.served.pool; mem = c.served.mem; inboxes = c.served.inboxes } in
-    let next : State = record { med = c.rx_take.new.self; pool = c.give.new.self; mem = c.tell-told.new.mem; inboxes = c.tell-told.new.inboxes } in
+    let next : State = record { med = c.rx_take.new.self; pool = c.tell.new.pool; mem = c.rx_take.new.mem; inboxes = c.tell.new.inboxes } in
     let a : Arrival = record { handle = c.in-Some.handle; bytes = bytes_at c.rx_take.new.mem (address_of c.in-Some.loan.place) c.in-Some.len } in
     let taken = c.in-Some.ensures in
-    let step : IsStep c.in-Some.loan a now next c.rx_take.new.mem = step-of first now c.in-Some.loan a c.rx_take.new.self c.rx_take.new.pool c.give.new.self c.rx_take.new.mem c.tell-told.new.mem c.tell-told.new.inboxes
-    taken.taken taken.kept taken.marked taken.arrival taken.bell taken.is_pools taken.hands taken.keeps taken.same_pool c.tell-told.ensures.filled c.tell-told.ensures.open c.tell-told.ensures.held c.give.ensures.claimed in
-    let serving = serving-step laws c.in-Some.loan a first now next c.rx_take.new.mem c.served.invariant.serving step in
+    let lands = landing (bound_by c.args.flows.now) (unread_of c.served.inboxes) (aim_of c.args.local.now a.bytes) in
+    let step : IsStep lands c.in-Some.loan a now next = step-of lands now c.in-Some.loan a c.rx_take.new.self c.rx_take.new.pool c.tell.new.pool c.rx_take.new.mem c.tell.new.inboxes
+    taken.taken taken.kept taken.marked taken.arrival taken.bell taken.is_pools taken.hands taken.keeps taken.same_pool c.tell.ensures.open c.tell.ensures.spent in
+    let serving = serving-step laws lands c.in-Some.loan a first now next c.served.invariant.serving step in
     let out = err_from_is_err_and c.from_residual.result c.from_residual.ensures.1 in
     record {
-      head = c.in_err-told.ensures.head ∙ c.served.invariant.head;
+      head = c.in_err-tell.ensures.head ∙ c.served.invariant.head;
       items = rw out.1 tt;
       frames = rw out.1 tt;
       bell = rw out.1 tt;
@@ -106,7 +86,7 @@ returns-in_err-told c =
       transmit = serving.transmit;
       unsent = serving.unsent;
       «open» = serving.opened;
-      held = serving.held;
+      held = placed-same c.tell.new.pool c.rx_take.new.mem (held_in c.args.inboxes.now) (held_in c.tell.new.inboxes) serving.at_hand serving.names;
       memory = serving.memory;
       device = serving.device;
       owned = serving.owned;
@@ -134,3 +114,8 @@ returns-clause-bell c = c.in_default.ensures.same ∙ sym (c.bells_end.ensures.e
 
 pub returns-clause-device : goal.returns-clause-device
 returns-clause-device c regs is = rw (c.in_default.ensures.same, c.in_default.ensures.same_memory) (c.served.invariant.serving.device regs is)
+
+pub returns-clause-held : goal.returns-clause-held
+returns-clause-held c =
+    let serving = c.served.invariant.serving in
+    rw c.in_default.ensures.same_pool (placed-same c.served.pool c.served.mem (held_in c.args.inboxes.now) (held_in c.served.inboxes) serving.at_hand serving.names)

@@ -1,5 +1,5 @@
 use Rattle.std.proofs.Common.{◌≡◌, ◌+◌, ◌%◌, refl, subst, drop}
-use Rattle.ibos_recv.proofs.Fillings.{frames-done}
+use Rattle.ibos_recv.proofs.Passings.{frames-done}
 use Rattle.ibos_recv.proofs.Words.{Inbox, inbox_frames}
 use Rattle.ibos_recv.proofs.inbox.InboxRing.done.Goals as goal
 

@@ -1,6 +1,6 @@
 use Rattle.std.proofs.Common.{◌≡◌, ◌<◌, ◌+◌, ◌%◌, [], length, arith, subst}
 use Rattle.std.specs.Prelude.{slice_index_or, take}
-use Rattle.ibos_recv.proofs.Fillings.{frame-read, read-kept}
+use Rattle.ibos_recv.proofs.Passings.{frame-read, read-kept}
 use Rattle.ibos_recv.proofs.Words.{Inbox, inbox_frames}
 use Rattle.ibos_recv.proofs.inbox.InboxRing.frame.Goals as goal
 

@@ -1,7 +1,7 @@
 use Rattle.std.proofs.Common.{◌≡◌, ◌+◌, ◌<◌, ◌++◌, ◌∷◌, [], length, Some, None, sym, ◌∙◌, ap, subst, length-append}
-use Rattle.ibos_recv.proofs.OpenPlaces.{filled-all, frames-elsewhere, open-hands, opened, same-held, still-open}
+use Rattle.ibos_recv.proofs.OpenPlaces.{open-hands, opened, passed-all, still-open}
 use Rattle.ibos_recv.proofs.TablePlaces.{named_of}
-use Rattle.ibos_recv.proofs.Words.{Inbox, frames_at, unread_at}
+use Rattle.ibos_recv.proofs.Words.{Inbox, address_of, bytes_at, frames_at, unread_at}
 use Rattle.ibos_recv.proofs.inboxes.Inboxes.push.Goals as goal
 
 pub place_of-requires : goal.place_of-requires
@@ -21,18 +21,18 @@ pub push-requires-clause-hands : goal.push-requires-clause-hands
 push-requires-clause-hands c =
     let open' = opened c.self.inside.places.items c.args.self.now c.args.who c.place_of.result (Some c.in-Some.inbox) c.index_mut.result.now c.self.view_is c.self.invariant c.place_of.ensures.place (named_of c.args.self.now c.args.who c.requires.open) c.index_mut.ensures.value c.in-Some.is in
     let hands = c.requires.hands in
-    (hands.0, open-hands c.self.inside.places.items c.args.self.now c.args.who c.place_of.result c.in-Some.inbox open' hands.0 c.args.mem.now hands.1)
+    (hands.0, open-hands c.self.inside.places.items c.args.self.now c.args.who c.place_of.result c.in-Some.inbox open' c.args.pool.now hands.0 hands.1)
 
 pub returns-clause-own : goal.returns-clause-own
-returns-clause-own c =
+returns-clause-own c mem =
     let open' = opened c.self.inside.places.items c.args.self.now c.args.who c.place_of.result (Some c.in-Some.inbox) c.index_mut.result.now c.self.view_is c.self.invariant c.place_of.ensures.place (named_of c.args.self.now c.args.who c.requires.open) c.index_mut.ensures.value c.in-Some.is in
-    ap (λ x. frames_at c.push.new.mem x) (open'.own (Some c.push.new.self)) ∙ c.push.ensures.frames ∙ sym (ap (λ x. frames_at c.args.mem.now x ++ c.args.frame.now ∷ []) open'.was)
+    ap (λ x. frames_at mem x) (open'.own (Some c.push.new.self)) ∙ c.push.ensures.frames mem ∙ sym (ap (λ x. frames_at mem x ++ bytes_at mem (address_of c.args.loan.place) c.args.len ∷ []) open'.was)
 
 pub returns-clause-unread : goal.returns-clause-unread
 returns-clause-unread c =
     let open' = opened c.self.inside.places.items c.args.self.now c.args.who c.place_of.result (Some c.in-Some.inbox) c.index_mut.result.now c.self.view_is c.self.invariant c.place_of.ensures.place (named_of c.args.self.now c.args.who c.requires.open) c.index_mut.ensures.value c.in-Some.is in
     let b : Inbox = c.in-Some.inbox in
-    let more : length c.push.new.self.lens ≡ length b.lens + 1 = ap (λ (x : Inbox). length x.lens) c.push.ensures.after ∙ length-append b.lens (length c.args.frame.now ∷ []) in
+    let more : length c.push.new.self.lens ≡ length b.lens + 1 = ap length c.push.ensures.lens ∙ length-append b.lens (c.args.len ∷ []) in
     ap (λ x. unread_at x) (open'.own (Some c.push.new.self)) ∙ more ∙ sym (ap (λ x. unread_at x + 1) open'.was)
 
 pub returns-clause-others : goal.returns-clause-others
@@ -40,24 +40,12 @@ returns-clause-others c =
     let open' = opened c.self.inside.places.items c.args.self.now c.args.who c.place_of.result (Some c.in-Some.inbox) c.index_mut.result.now c.self.view_is c.self.invariant c.place_of.ensures.place (named_of c.args.self.now c.args.who c.requires.open) c.index_mut.ensures.value c.in-Some.is in
     open'.others (Some c.push.new.self)
 
-pub returns-clause-frames : goal.returns-clause-frames
-returns-clause-frames c q other =
-    let open' = opened c.self.inside.places.items c.args.self.now c.args.who c.place_of.result (Some c.in-Some.inbox) c.index_mut.result.now c.self.view_is c.self.invariant c.place_of.ensures.place (named_of c.args.self.now c.args.who c.requires.open) c.index_mut.ensures.value c.in-Some.is in
-    let hands = c.requires.hands in
-    frames-elsewhere c.self.inside.places.items c.args.self.now c.args.who c.place_of.result c.in-Some.inbox open' hands.0 c.args.mem.now c.push.new.mem (Some c.push.new.self) q other hands.1 c.push.ensures.filled
-
 pub returns-clause-open : goal.returns-clause-open
 returns-clause-open c q =
     let open' = opened c.self.inside.places.items c.args.self.now c.args.who c.place_of.result (Some c.in-Some.inbox) c.index_mut.result.now c.self.view_is c.self.invariant c.place_of.ensures.place (named_of c.args.self.now c.args.who c.requires.open) c.index_mut.ensures.value c.in-Some.is in
     still-open c.self.inside.places.items c.args.self.now c.args.who c.place_of.result c.in-Some.inbox open' c.push.new.self q
 
-pub returns-clause-held : goal.returns-clause-held
-returns-clause-held c =
+pub returns-clause-passed : goal.returns-clause-passed
+returns-clause-passed c =
     let open' = opened c.self.inside.places.items c.args.self.now c.args.who c.place_of.result (Some c.in-Some.inbox) c.index_mut.result.now c.self.view_is c.self.invariant c.place_of.ensures.place (named_of c.args.self.now c.args.who c.requires.open) c.index_mut.ensures.value c.in-Some.is in
-    same-held c.self.inside.places.items c.args.self.now c.args.who c.place_of.result c.in-Some.inbox open' c.push.new.self (ap (λ (x : Inbox). x.held) c.push.ensures.after)
-
-pub returns-clause-filled : goal.returns-clause-filled
-returns-clause-filled c =
-    let open' = opened c.self.inside.places.items c.args.self.now c.args.who c.place_of.result (Some c.in-Some.inbox) c.index_mut.result.now c.self.view_is c.self.invariant c.place_of.ensures.place (named_of c.args.self.now c.args.who c.requires.open) c.index_mut.ensures.value c.in-Some.is in
-    let hands = c.requires.hands in
-    filled-all c.self.inside.places.items c.args.self.now c.args.who c.place_of.result c.in-Some.inbox open' hands.0 c.args.mem.now c.push.new.mem c.push.ensures.filled
+    passed-all c.self.inside.places.items c.args.self.now c.args.who c.place_of.result c.in-Some.inbox open' c.push.new.self c.args.loan c.args.pool.now c.push.new.pool c.push.ensures.passed
