@@ -39,12 +39,12 @@ pub record IsPassed (loan : Held) (held held' : List Held) (pool pool' : Names) 
   pub now : held' ≡ front ++ record { name = free.name; place = loan.place } ∷ back
   pub exchanged : AreExchanged pool pool' loan.name free.name
 
--- What becomes of the loan that a frame lies in: it is given to the pool, as it is where a rule keeps
--- the frame from all instances, and else after it was passed to these buffers.
+-- What becomes of the loan that a frame lies in: it is given to the pool, as it is where a rule
+-- keeps the frame from all instances, and else after it was passed to these buffers.
 abbrev pub IsSpent : Result (Instance × ℕ) Rule → Held → List Held → List Held → Names → Names
     → Type 0
-IsSpent (Ok r) loan held held' pool pool' = (between : Names) × IsPassed loan held held' pool between
-    × IsClaimed between pool' loan.name false
+IsSpent (Ok r) loan held held' pool pool' = (between : Names)
+    × IsPassed loan held held' pool between × IsClaimed between pool' loan.name false
 IsSpent (Err rule) loan held held' pool pool' = (held' ≡ held)
     × IsClaimed pool pool' loan.name false
 

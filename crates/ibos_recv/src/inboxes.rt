@@ -28,7 +28,8 @@ use std::marker::Model;
 const PLACES: usize = 2048;
 
 /// The inboxes of the instances that were added and not ended: sixteen buffers each, and in them
-/// the frames that the instance has not done with. They can't be dropped.
+/// the frames that the instance has not done with. The buffers keep their names, and their places
+/// may come to lie in any area. They can't be dropped.
 ///
 /// # Examples
 ///

@@ -1,5 +1,7 @@
 //! What the network processes receive: an inbox of sixteen buffers for each instance, and the
 //! receive bell, at which the frames that the device heard go to the instances that they belong to.
+//! A frame goes into an inbox by an exchange of two buffers' places, and stays where the device
+//! wrote it.
 #![tactic(auto)]
 
 mod inbox;

@@ -7,11 +7,12 @@ ghost use Rattle.ibos_kinds.specs.declared.outcome.Item.TheVariants.{LentIs};
 ghost use Rattle.ibos_kinds.specs.declared.party.Party.TheVariants.{Page};
 ghost use Rattle.ibos_kinds.specs.Bells.{aim_of, frames_in, heard_item, unread_then};
 ghost use Rattle.ibos_kinds.specs.Parties.{is_to};
+ghost use Rattle.ibos_pool.specs.declared.name.Name.{Name};
 ghost use Rattle.ibos_pool.specs.declared.name.Ring.{Ring};
 ghost use Rattle.ibos_pool.specs.declared.name.Ring.TheVariants.{Receive};
 ghost use Rattle.ibos_pool.specs.Hands.{AreAtHand};
 ghost use Rattle.ibos_pool.specs.Memory.{bytes_at};
-ghost use Rattle.ibos_pool.specs.Names.{Held};
+ghost use Rattle.ibos_pool.specs.Names.{Held, place_of};
 ghost use Rattle.ibos_pool.specs.Places.{address_of};
 ghost use Rattle.ibos_pool.specs.Sizes.{buffer_bytes};
 ghost use Rattle.ibos_nic.specs.Registers.{Registers};
@@ -41,7 +42,8 @@ use std::alloc::Global;
 /// keeps it from there. The rules are F1, F2, F4 to F13 and F14, in this order.
 ///
 /// No byte of the memory is written: a frame passes to its inbox with its place. The receive
-/// buffer's name gets the place of the inbox's free buffer, and is free.
+/// buffer's name gets the place of the inbox's free buffer, and is free. A frame that is dropped
+/// leaves all places as they were.
 ///
 /// After want of memory some descriptors were taken back and others not, `out` has some of the
 /// items, and inboxes some of the frames.
@@ -66,6 +68,9 @@ pub fn serve(
     ensures frames { OnOk result ((p : Instance) → frames_of mem.new inboxes.new p
         ≡ frames_of mem.old inboxes.old p ++ frames_in (filter (is_to (Page p)) (bell_over local.now
         (bound_by flows.now) (unread_of inboxes.old) (arrivals mem.old med.old)))) }
+    ensures dropped { OnOk result (frames_in (bell_over local.now (bound_by flows.now)
+        (unread_of inboxes.old) (arrivals mem.old med.old)) ≡ []
+        → (name : Name) → place_of pool.new name ≡ place_of pool.old name) }
     ensures bell { OnOk result (med.new ≡ after_bell Receive mem.old med.old) }
     ensures arrivals { OnOk result (arrivals mem.new med.new ≡ []) }
     ensures done { (ring : Ring) → completed ring mem.new (ring_of med.new ring)

@@ -3,7 +3,7 @@ use Rattle.std.proofs.lemmas.Result.{err_from_is_err_and}
 use Rattle.ibos_kinds.specs.Bells.{aim_of}
 use Rattle.ibos_mediate.specs.Frames.{Arrival}
 use Rattle.ibos_flow.specs.Flows.{bound_by}
-use Rattle.ibos_recv.proofs.BellItems.{item_of, told-frames, told-items, told-step}
+use Rattle.ibos_recv.proofs.BellItems.{item_of, still-step, told-frames, told-items, told-step}
 use Rattle.ibos_recv.proofs.BellSteps.{IsStep, Laws, State, serving-step, step-of}
 use Rattle.ibos_recv.proofs.Hearings.{frames_for}
 use Rattle.ibos_recv.proofs.Spendings.{placed-same}
@@ -49,6 +49,7 @@ served-preserved c =
       serving = serving-step laws lands c.in-Some.loan a first now next c.served.invariant.serving step;
       told = told-step c.args.local.now (bound_by c.args.flows.now) (λ u v same. c.bells_agree.ensures c.args.local.now (bound_by c.args.flows.now) (bound_by c.args.flows.now) u v (λ p. refl) same) first now next c.args.out.now.items c.served.out.items c.tell.new.out.items a taken.arrival told.items told.unread
           (λ p. told.frames p ∙ ap (λ fs. fs ++ frames_for p (item_of c.args.local.now (bound_by c.args.flows.now) (unread_of c.served.inboxes) a ∷ [])) (still p)) c.served.invariant.told;
+      still = still-step c.args.local.now (bound_by c.args.flows.now) (λ u v same. c.bells_agree.ensures c.args.local.now (bound_by c.args.flows.now) (bound_by c.args.flows.now) u v (λ p. refl) same) first now next c.in-Some.loan a taken.arrival told.unread step.spent c.served.invariant.still;
       head = told.head ∙ c.served.invariant.head;
     }
 
@@ -80,6 +81,7 @@ returns-in_err-tell c =
       head = c.in_err-tell.ensures.head ∙ c.served.invariant.head;
       items = rw out.1 tt;
       frames = rw out.1 tt;
+      dropped = rw out.1 tt;
       bell = rw out.1 tt;
       arrivals = rw out.1 tt;
       done = serving.done;
@@ -119,3 +121,6 @@ pub returns-clause-held : goal.returns-clause-held
 returns-clause-held c =
     let serving = c.served.invariant.serving in
     rw c.in_default.ensures.same_pool (placed-same c.served.pool c.served.mem (held_in c.args.inboxes.now) (held_in c.served.inboxes) serving.at_hand serving.names)
+
+pub returns-clause-dropped : goal.returns-clause-dropped
+returns-clause-dropped c none name = rw c.in_default.ensures.same_pool ((c.served.invariant.still none).1 name)
