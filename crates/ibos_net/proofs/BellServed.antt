@@ -2,9 +2,8 @@
 use Rattle.std.proofs.Common.{refl, sym, ◌∙◌, ap, subst, arith}
 use Rattle.std.specs.Prelude.{filter}
 use Rattle.ibos_mediate.specs.Frames.{unsent_frames}
-use Rattle.ibos_net.proofs.BuffersStay.{ring-lent}
 use Rattle.ibos_net.proofs.SendsLeft.{SendsLeft, counts-moved, left-buffers}
-use Rattle.ibos_net.proofs.Words.{next_frame, network_by, true, false, Bool, Held, IsKept, IsLent, IsPlaceIn, IsTrue, IsFalse, Place, RingView, buffer_at, has_place, is_lent_at, held_to_send, Transmit, ℕ, ◌≡◌, ◌≢◌, ◌≤◌, ◌+◌, ◌-◌, ◌++◌, List, [], Option, None, Alive, AreAtHand, AreOwned, AreUnheld, Ring, RingValues, ring_of, AreRegisters, Arrival, Endpoint, Inboxes, Instance, IsAtDevice, IsInMemory, IsSafe, Item, Life, Gone, Unborn, Local, LogEntry, Mediated, Memory, Names, NetMakes, NetStands, NetState, Network, Page, Receive, Registers, RxBell, accepted, after_bell, arrivals, bell_over, belled, bound_by, completed, ear_with, frames_of, handles_after, held_in, inbox_by, is_to, length, map, received_frames, unread_count, unread_of, got_for}
+use Rattle.ibos_net.proofs.Words.{next_frame, network_by, true, RingView, address_of, buffer_bytes, bytes_at, held_to_send, Transmit, ℕ, ◌≡◌, ◌≢◌, ◌≤◌, ◌+◌, ◌-◌, ◌++◌, List, [], Option, None, Alive, AreAtHand, AreOwned, AreUnheld, Ring, RingValues, ring_of, AreRegisters, Arrival, Endpoint, Inboxes, Instance, IsAtDevice, IsInMemory, IsSafe, Item, Life, Gone, Unborn, Local, LogEntry, Mediated, Memory, Names, NetMakes, NetStands, NetState, Network, Page, Receive, Registers, RxBell, accepted, after_bell, arrivals, bell_over, belled, bound_by, completed, ear_with, frames_of, handles_after, held_in, inbox_by, is_to, length, map, received_frames, unread_count, unread_of, got_for}
 use Rattle.ibos_kinds.specs.Bells.{bell, frames_in}
 use Rattle.ibos_model.specs.Journal.{kind_in}
 use Rattle.ibos_model.specs.Logs.{log_by}
@@ -47,29 +46,17 @@ items-same local life remote n t safe s bytes counted counts =
 abbrev pub after : NetState → Mediated → Memory → Names → Inboxes → NetState
 after t med mem names inboxes = record { med = med; mem = mem; names = names; flows = t.flows; inboxes = inboxes; sends = t.sends }
 
-lent-kept : (b : Bool) → IsTrue b → IsFalse b → ⊥
-lent-kept true lent kept = absurd (cc kept)
-lent-kept false lent kept = absurd (cc lent)
-
--- a bell leaves what is to be sent: the inboxes' buffers alone are written
-pub bell-left : (t : NetState) (med : Mediated) (mem : Memory) → IsSafe t → med.transmit ≡ t.med.transmit → completed Transmit mem med.transmit ≡ completed Transmit t.mem t.med.transmit → unsent_frames mem med.transmit ≡ unsent_frames t.mem t.med.transmit
-    → AreAtHand t.names t.mem (held_in t.inboxes) → AreAtHand t.names t.mem (held_to_send t.sends) → ((held : List Held) (p : Place) → AreAtHand t.names t.mem held → has_place held p ≡ true → IsKept t.mem p)
-    → ((held more : List Held) (p : Place) → AreAtHand t.names t.mem (held ++ more) → has_place held p ≡ true → has_place more p ≡ false) → AreAtHand t.names t.mem (held_to_send t.sends ++ held_in t.inboxes)
-    → ((p : Place) → IsPlaceIn (length t.mem) p → has_place (held_in t.inboxes) p ≡ false → buffer_at mem p ≡ buffer_at t.mem p) → SendsLeft t.med med t.mem mem t.sends
-bell-left t med mem safe transmit done unsent front hands kept apart swapped others = record {
+-- a bell leaves what is to be sent: it writes no byte
+pub bell-left : (t : NetState) (med : Mediated) (mem : Memory) → med.transmit ≡ t.med.transmit → completed Transmit mem med.transmit ≡ completed Transmit t.mem t.med.transmit → unsent_frames mem med.transmit ≡ unsent_frames t.mem t.med.transmit
+    → ((from n : ℕ) → bytes_at mem from n ≡ bytes_at t.mem from n) → SendsLeft t.med med t.mem mem t.sends
+bell-left t med mem transmit done unsent bytes = record {
   held = ap (λ (r : RingView). r.held) transmit;
   done = done;
   unsent = unsent;
-  home = λ p there. others p (kept (held_to_send t.sends) p hands there).place (apart (held_to_send t.sends) (held_in t.inboxes) p swapped there);
-  lent = λ p there.
-      let lent = ring-lent t.med t.mem p safe.memory there in
-      others p lent.place (by_test p (has_place (held_in t.inboxes) p) refl lent);
+  home = λ p there. bytes (address_of p) buffer_bytes;
+  lent = λ p there. bytes (address_of p) buffer_bytes;
   posts = λ posts. record { posted = ap (λ (r : RingView). r.values.posted) transmit ∙ posts.posted; taken = ap (λ (r : RingView). r.values.taken) transmit ∙ posts.taken };
 }
-  where
-    by_test : (p : Place) (b : Bool) → has_place (held_in t.inboxes) p ≡ b → IsLent t.mem p → has_place (held_in t.inboxes) p ≡ false
-    by_test p true is lent = absurd (lent-kept (is_lent_at t.mem p) lent.lent (kept (held_in t.inboxes) p front is).kept)
-    by_test p false is lent = is
 
 pub bell-serves : (local : Local) (life : Instance → Life) (remote : Instance → Endpoint) (n : Network) (t : NetState) (med : Mediated) (mem : Memory) (names : Names) (inboxes : Inboxes) (regs : Registers) (log : List LogEntry) (items : List Item)
     → IsSafe t → NetStands life remote n t → AreRegisters local n regs

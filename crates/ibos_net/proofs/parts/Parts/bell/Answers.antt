@@ -1,5 +1,5 @@
 use Rattle.std.proofs.Common.{refl, sym, subst, ap, ◌∙◌}
-use Rattle.ibos_net.proofs.Words.{Transmit, count_of, held_to_send, Arrival, Fine, IsSafe, Item, List, NetState, Receive, RingView, RxBell, posts_of, [], ◌+◌, ◌++◌, ◌≡◌, arrivals, bell_over, bound_by, held_in, map, received_frames, unread_of}
+use Rattle.ibos_net.proofs.Words.{Transmit, count_of, held_to_send, Arrival, Fine, IsSafe, Item, List, NetState, Receive, RingView, RxBell, posts_of, [], ◌+◌, ◌++◌, ◌≡◌, arrivals, bell_over, bound_by, map, received_frames, unread_of}
 use Rattle.ibos_net.proofs.Outcomes.{outcome-of, served-now}
 use Rattle.ibos_net.proofs.BellServed.{after, bell-left, bell-posts, bell-serves, belled-safe, items-same}
 use Rattle.ibos_net.proofs.parts.Parts.bell.Goals as goal
@@ -12,8 +12,7 @@ returns-in_err-serve-clause-safe c =
     let e = c.serve.ensures in
     let new = c.serve.new in
     belled-safe t new.med new.mem new.pool new.inboxes safe e.memory e.owned e.unheld (e.hands (held_to_send t.sends) safe.hands) (λ q. (e.open q).0)
-    (bell-left t new.med new.mem safe e.transmit (e.done Transmit) e.unsent (c.hands_are_parted.ensures.front t.names t.mem (held_in t.inboxes) (held_to_send t.sends) safe.hands) (c.hands_are_parted.ensures.back t.names t.mem (held_in t.inboxes) (held_to_send t.sends) safe.hands) (λ held q hands there. c.hands_are_parted.ensures.kept t.names t.mem held q hands there)
-    (λ held more q hands there. c.hands_are_parted.ensures.apart t.names t.mem held more q hands there) (c.hands_are_parted.ensures.swapped t.names t.mem (held_in t.inboxes) (held_to_send t.sends) safe.hands) (λ q. e.served.buffers q))
+    (bell-left t new.med new.mem e.transmit (e.done Transmit) e.unsent e.served.bytes)
 
 pub returns-clause-safe : goal.returns-clause-safe
 returns-clause-safe c =
@@ -23,8 +22,7 @@ returns-clause-safe c =
     let e = c.serve.ensures in
     let new = c.serve.new in
     belled-safe t new.med new.mem new.pool new.inboxes safe e.memory e.owned e.unheld (e.hands (held_to_send t.sends) safe.hands) (λ q. (e.open q).0)
-    (bell-left t new.med new.mem safe e.transmit (e.done Transmit) e.unsent (c.hands_are_parted.ensures.front t.names t.mem (held_in t.inboxes) (held_to_send t.sends) safe.hands) (c.hands_are_parted.ensures.back t.names t.mem (held_in t.inboxes) (held_to_send t.sends) safe.hands) (λ held q hands there. c.hands_are_parted.ensures.kept t.names t.mem held q hands there)
-    (λ held more q hands there. c.hands_are_parted.ensures.apart t.names t.mem held more q hands there) (c.hands_are_parted.ensures.swapped t.names t.mem (held_in t.inboxes) (held_to_send t.sends) safe.hands) (λ q. e.served.buffers q))
+    (bell-left t new.med new.mem e.transmit (e.done Transmit) e.unsent e.served.bytes)
 
 pub returns-clause-posts : goal.returns-clause-posts
 returns-clause-posts c =
@@ -50,5 +48,4 @@ returns-clause-serves c = λ regs log.
     (λ life remote n s each lives. bell-serves c.args.local.now life remote n t new.med new.mem new.pool new.inboxes regs log items safe s each
     (items-same c.args.local.now life remote n t safe s (bytes t.mem t.med) (c.frames_are_counted.ensures.received t.mem t.med.receive) (c.inboxes_keep_their_frames.ensures.count t.mem t.inboxes))
     done.frames done.bell e.transmit (e.done Receive) none (λ q. (e.open q).1) e.memory e.device e.served.pool_areas e.served.areas
-    (bell-left t new.med new.mem safe e.transmit (e.done Transmit) e.unsent (c.hands_are_parted.ensures.front t.names t.mem (held_in t.inboxes) (held_to_send t.sends) safe.hands) (c.hands_are_parted.ensures.back t.names t.mem (held_in t.inboxes) (held_to_send t.sends) safe.hands) (λ held q hands there. c.hands_are_parted.ensures.kept t.names t.mem held q hands there)
-    (λ held more q hands there. c.hands_are_parted.ensures.apart t.names t.mem held more q hands there) (c.hands_are_parted.ensures.swapped t.names t.mem (held_in t.inboxes) (held_to_send t.sends) safe.hands) (λ q. e.served.buffers q)))
+    (bell-left t new.med new.mem e.transmit (e.done Transmit) e.unsent e.served.bytes))
