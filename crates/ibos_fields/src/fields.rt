@@ -1,19 +1,17 @@
 // The fields of a text, each read from its word.
 ghost use Rattle.std.specs.Prelude.{◌≡◌, ◌≤◌, ◌<◌, ◌^◌, None, Some, true, false, length};
-ghost use Rattle.std.specs.Prelude.{MatchOption, MatchResult, IfOk, IfSome};
+ghost use Rattle.std.specs.Prelude.{MatchOption, IfSome};
 ghost use Rattle.std.specs.Char.{digit_value, is_digit as is_digit_in};
 ghost use Rattle.std.specs.List.{list_all};
 ghost use Rattle.std.specs.Option.{SomeIff};
 ghost use Rattle.std.specs.Str.Parse.{digits_value};
 ghost use Rattle.ibos_kinds.specs.Limits.{IsKey, IsNamed};
 ghost use Rattle.ibos_fields.specs.Fields.{number_in, hex_number_in, hex_digits_in};
-ghost use Rattle.ibos_fields.specs.Fields.{instance_in, key_in, hex_in, is_digit};
+ghost use Rattle.ibos_fields.specs.Fields.{instance_in, key_in, is_digit};
 ghost use Rattle.ibos_fields.specs.Fields as spec;
 
-use hex::FromHexError;
-use ibos_kinds::{Bytes, Instance, Key, Memory};
+use ibos_kinds::{Instance, Key};
 use ibos_text::len_before;
-use std::alloc::Global;
 
 const MAX_DIGITS: usize = 10;
 
@@ -134,20 +132,5 @@ pub fn read_key(word: &[u8]) -> Option<Key>
         Some(Key::Byte(byte))
     } else {
         None
-    }
-}
-
-/// Bytes in hexadecimal, `-` for none. None where the word is malformed.
-#[tactic(auto, unfolding(crate::specs::Fields::hex_in))]
-pub fn read_hex(alloc: Global, word: &[u8]) -> Result<Option<Bytes>, Memory>
-    ensures { IfOk result (λ bytes. bytes ≡ hex_in word.now) }
-{
-    if word == b"-".as_slice() {
-        return Ok(Some(Bytes::new(alloc)));
-    }
-    match hex::decode(alloc, word) {
-        Ok(bytes) => Ok(Some(Bytes::from(bytes))),
-        Err(FromHexError::OutOfMemory) => Err(Memory),
-        Err(_) => Ok(None),
     }
 }

@@ -2,5 +2,7 @@
 #![tactic(auto)]
 
 mod fields;
+mod hexadecimal;
 
-pub use fields::{read_hex, read_hex_number, read_instance, read_key, read_number};
+pub use fields::{read_hex_number, read_instance, read_key, read_number};
+pub use hexadecimal::read_hex;
