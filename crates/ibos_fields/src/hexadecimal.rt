@@ -4,6 +4,7 @@ ghost use Rattle.std.specs.Option.{unwrap_or};
 ghost use Rattle.hex.specs.Hex.{decode_pairs, hex_digit_value};
 ghost use Rattle.ibos_fields.specs.Fields.{bytes_named, hex_in};
 
+use crate::lanes::decode_block;
 use ibos_kinds::{Bytes, Memory};
 use std::alloc::Global;
 
@@ -29,9 +30,25 @@ pub fn read_hex(alloc: Global, word: &[u8]) -> Result<Option<Bytes>, Memory>
     }
 }
 
-// Writes the bytes, and says whether all that was read is digits. It goes on behind what is none,
-// so that no branch depends on the digits.
+// Writes the bytes, and says whether all that was read is digits: 16 bytes at a time, and then the
+// few that are left.
 fn decode_digits(word: &[u8], bytes: &mut [u8]) -> bool
+    requires { length word.now ≡ 2 * length bytes.old }
+    ensures { bytes_named (decode_pairs 0 word.now) ≡ if result then Some bytes.new else None }
+{
+    let mut at = 0;
+    while bytes.len() - at >= 16 {
+        let Some(block) = decode_block(&word[2 * at..]) else {
+            return false;
+        };
+        bytes[at..at + 16].copy_from_slice(&block);
+        at += 16;
+    }
+    decode_few(&word[2 * at..], &mut bytes[at..])
+}
+
+// It goes on behind what is no digit, so that no branch depends on the digits.
+fn decode_few(word: &[u8], bytes: &mut [u8]) -> bool
     requires { length word.now ≡ 2 * length bytes.old }
     ensures { bytes_named (decode_pairs 0 word.now) ≡ if result then Some bytes.new else None }
 {

@@ -3,6 +3,7 @@
 
 mod fields;
 mod hexadecimal;
+mod lanes;
 
 pub use fields::{read_hex_number, read_instance, read_key, read_number};
 pub use hexadecimal::read_hex;

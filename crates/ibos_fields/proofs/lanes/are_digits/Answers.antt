@@ -1,0 +1,8 @@
+use Rattle.std.proofs.Common.{leb, cond, refl}
+use Rattle.ibos_fields.proofs.VectorLanes.{combined, splat_is, itself, mask_of_codes}
+use Rattle.ibos_fields.proofs.lanes.are_digits.Goals as goal
+
+pub returns : goal.returns
+returns c =
+    let v = c.args.codes in
+    mask_of_codes v _ c.fits-codes.0 (combined (λ a b. cond (leb a b) 255 0) _ _ v (splat_is v 16 16 c.fits-codes.0) (itself v))
