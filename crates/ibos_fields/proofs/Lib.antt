@@ -1,3 +1,4 @@
 pub mod Words
 mod HexDigits
-mod VectorLanes
+pub mod VectorLanes
+mod EncodedDigits

@@ -6,7 +6,6 @@ use Rattle.std.proofs.lemmas.Bool.Decides.{nat_tests}
 use Rattle.std.proofs.lemmas.List.{length-map}
 use Rattle.std.proofs.lemmas.Simd.{map-map, mask_l-mod, zip2-map}
 use lib.Lanes.{zip2, sel_l, mask_l, top, Each1}
-use Rattle.ibos_fields.proofs.HexDigits.{code}
 
 -- an operation on two vectors that were computed from v
 pub combined : (h : ℕ → ℕ → ℕ) (f g : ℕ → ℕ) (v : List ℕ) {a b : List ℕ} → a ≡ map f v → b ≡ map g v → zip2 h a b ≡ map (λ x. h (f x) (g x)) v
@@ -28,15 +27,15 @@ chosen-map m f g (x ∷ xs) = ap (λ r. cond (top 7 (m x)) (f x) (g x) ∷ r) (c
 pub chosen : (m f g : ℕ → ℕ) (v : List ℕ) {a b c : List ℕ} → a ≡ map m v → b ≡ map f v → c ≡ map g v → sel_l (map (top 7) a) b c ≡ map (λ x. cond (top 7 (m x)) (f x) (g x)) v
 chosen m f g v p q r = rw (p, q, r) (chosen-map m f g v)
 
-codes_by : (f : ℕ → ℕ) (v : List ℕ) → Each1 (Fits w8) v → agree_below (λ x. eqb (f x) (code x)) (λ _. true) 256 ≡ true → map f v ≡ map code v
-codes_by f [] fits all = refl
-codes_by f (x ∷ xs) fits all =
-    let first : f x ≡ code x = eqb-true _ _ (agree_below_at (λ x. eqb (f x) (code x)) (λ _. true) 256 x all fits.0.fits) in
-    ap₂ (λ (y : ℕ) (r : List ℕ). y ∷ r) first (codes_by f xs fits.1 all)
+agree_on_bytes : (f g : ℕ → ℕ) (v : List ℕ) → Each1 (Fits w8) v → agree_below (λ x. eqb (f x) (g x)) (λ _. true) 256 ≡ true → map f v ≡ map g v
+agree_on_bytes f g [] fits all = refl
+agree_on_bytes f g (x ∷ xs) fits all =
+    let first : f x ≡ g x = eqb-true _ _ (agree_below_at (λ y. eqb (f y) (g y)) (λ _. true) 256 x all fits.0.fits) in
+    ap₂ (λ (y : ℕ) (r : List ℕ). y ∷ r) first (agree_on_bytes f g xs fits.1 all)
 
--- what agrees with the codes at each byte
-pub codes_are : (f : ℕ → ℕ) (v z : List ℕ) → Each1 (Fits w8) v → z ≡ map f v → agree_below (λ x. eqb (f x) (code x)) (λ _. true) 256 ≡ true → z ≡ map code v
-codes_are f v z fits is all = is ∙ codes_by f v fits all
+-- what two functions make of a vector that agree at each byte
+pub lanes_are : (f g : ℕ → ℕ) (v z : List ℕ) → Each1 (Fits w8) v → z ≡ map f v → agree_below (λ x. eqb (f x) (g x)) (λ _. true) 256 ≡ true → z ≡ map g v
+lanes_are f g v z fits is all = is ∙ agree_on_bytes f g v fits all
 
 unset : (m : ℕ) (r : Bool) → eqb m 0 ≡ r → eqb (0 + 2 * m) 0 ≡ r
 unset m r h = grind (arith, nat_tests, h)

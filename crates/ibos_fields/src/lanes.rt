@@ -1,8 +1,8 @@
 // Many hexadecimal digits at once.
-ghost use Rattle.std.specs.Prelude.{◌≡◌, ◌≤◌, nat_lt, length, map, take};
+ghost use Rattle.std.specs.Prelude.{◌≡◌, ◌/◌, ◌%◌, ◌≤◌, ◌++◌, nat_lt, length, map, take, slice_index};
 ghost use Rattle.std.specs.List.{list_all};
 ghost use Rattle.std.specs.Option.{unwrap_or};
-ghost use Rattle.hex.specs.Hex.{decode_pairs, hex_digit_value};
+ghost use Rattle.hex.specs.Hex.{decode_pairs, encode_lower, hex_digit_value, lower_digits};
 ghost use Rattle.ibos_fields.specs.Fields.{bytes_named};
 
 use std::simd::prelude::*;
@@ -40,4 +40,33 @@ fn are_digits(codes: u8x16) -> bool
     ensures { result ≡ list_all (λ code. nat_lt code 16) codes }
 {
     codes.simd_ge(u8x16::splat(16)).to_bitmask() == 0
+}
+
+/// The 32 digits of the first 16 bytes, in two halves.
+#[inline(always)]
+pub fn encode_block(bytes: &[u8]) -> ([u8; 16], [u8; 16])
+    requires { 16 ≤ length bytes.now }
+    ensures { result.0 ++ result.1 ≡ encode_lower (take 16 bytes.now) }
+{
+    let block = u8x16::from_slice(bytes);
+    let (first, second) = high_digits(block).interleave(low_digits(block));
+    (first.to_array(), second.to_array())
+}
+
+#[inline(always)]
+fn high_digits(bytes: u8x16) -> u8x16
+    ensures { result ≡ map (λ b. slice_index lower_digits (b / 16)) bytes }
+{
+    let values = bytes >> u8x16::splat(4);
+    let is_decimal = values.simd_lt(u8x16::splat(10));
+    is_decimal.select(values + u8x16::splat(b'0'), values + u8x16::splat(b'a' - 10))
+}
+
+#[inline(always)]
+fn low_digits(bytes: u8x16) -> u8x16
+    ensures { result ≡ map (λ b. slice_index lower_digits (b % 16)) bytes }
+{
+    let values = bytes & u8x16::splat(15);
+    let is_decimal = values.simd_lt(u8x16::splat(10));
+    is_decimal.select(values + u8x16::splat(b'0'), values + u8x16::splat(b'a' - 10))
 }

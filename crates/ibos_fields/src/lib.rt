@@ -6,4 +6,4 @@ mod hexadecimal;
 mod lanes;
 
 pub use fields::{read_hex_number, read_instance, read_key, read_number};
-pub use hexadecimal::read_hex;
+pub use hexadecimal::{read_hex, write_digits};

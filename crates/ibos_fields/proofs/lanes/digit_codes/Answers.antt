@@ -1,6 +1,7 @@
 use Rattle.std.proofs.Common.{ℕ, refl}
 use Rattle.std.proofs.lemmas.Simd.{zip2_splat}
-use Rattle.ibos_fields.proofs.VectorLanes.{combined, splat_is, chosen, codes_are}
+use Rattle.ibos_fields.proofs.VectorLanes.{combined, splat_is, chosen, lanes_are}
+use Rattle.ibos_fields.proofs.HexDigits.{code}
 use Rattle.ibos_fields.proofs.lanes.digit_codes.Goals as goal
 
 pub returns : goal.returns
@@ -12,4 +13,4 @@ returns c =
     let is_digit = combined _ _ _ v digit (splat_is v 16 10 long) in
     let is_letter = combined _ _ _ v letter (splat_is v 16 6 long) in
     let others = chosen _ _ _ v is_letter (combined _ _ _ v letter (splat_is v 16 10 long)) (splat_is v 16 255 long) in
-    codes_are _ v _ c.fits-bytes.1 (chosen _ _ _ v is_digit digit others) refl
+    lanes_are _ code v _ c.fits-bytes.1 (chosen _ _ _ v is_digit digit others) refl
