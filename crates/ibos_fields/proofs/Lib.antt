@@ -2,3 +2,4 @@ pub mod Words
 mod HexDigits
 pub mod VectorLanes
 mod EncodedDigits
+mod PrintableBlocks

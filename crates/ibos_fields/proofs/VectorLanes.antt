@@ -37,32 +37,21 @@ agree_on_bytes f g (x ∷ xs) fits all =
 pub lanes_are : (f g : ℕ → ℕ) (v z : List ℕ) → Each1 (Fits w8) v → z ≡ map f v → agree_below (λ x. eqb (f x) (g x)) (λ _. true) 256 ≡ true → z ≡ map g v
 lanes_are f g v z fits is all = is ∙ agree_on_bytes f g v fits all
 
-unset : (m : ℕ) (r : Bool) → eqb m 0 ≡ r → eqb (0 + 2 * m) 0 ≡ r
-unset m r h = grind (arith, nat_tests, h)
+-- a lane whose mask isn't set
+unset_lane : (t u r : Bool) (m : ℕ) → not t ≡ u → eqb m 0 ≡ r → eqb (cond t 1 0 + 2 * m) 0 ≡ (u && r)
+unset_lane true true r m opposite rest = cc opposite
+unset_lane true false r m opposite rest = grind (arith, nat_tests)
+unset_lane false true r m opposite rest = grind (arith, nat_tests, rest)
+unset_lane false false r m opposite rest = cc opposite
 
-set_one : (m : ℕ) → eqb (1 + 2 * m) 0 ≡ false
-set_one m = grind (arith, nat_tests)
+none_set : (t q : ℕ → Bool) (v : List ℕ) → Each1 (Fits w8) v → agree_below (λ x. not (t x)) q 256 ≡ true → eqb (mask_l (map t v)) 0 ≡ list_all q v
+none_set t q [] fits all = refl
+none_set t q (x ∷ xs) fits all =
+    unset_lane (t x) (q x) _ _ (agree_below_at (λ y. not (t y)) q 256 x all fits.0.fits) (none_set t q xs fits.1 all)
 
-step_small : (x m : ℕ) (r : Bool) → eqb m 0 ≡ r → eqb (cond (top 7 (cond (leb 16 x) 255 0)) 1 0 + 2 * m) 0 ≡ (nat_lt x 16 && r)
-step_small x m r h =
-    elim (cases_lt x 16) [
-      | inl small ↦
-          let test : leb 16 x ≡ false = grind (arith, nat_tests, small) in
-          let below : nat_lt x 16 ≡ true = grind (arith, nat_tests, small) in
-          rw (test, below) (unset m r h)
-      | inr large ↦
-          let test : leb 16 x ≡ true = grind (arith, nat_tests, large) in
-          let above : nat_lt x 16 ≡ false = grind (arith, nat_tests, large) in
-          rw (test, above) (set_one m)
-    ]
-
-none_set : (v : List ℕ) → eqb (mask_l (map (λ x. top 7 (cond (leb 16 x) 255 0)) v)) 0 ≡ list_all (λ x. nat_lt x 16) v
-none_set [] = refl
-none_set (x ∷ xs) = step_small x _ _ (none_set xs)
-
--- the mask of the codes from 16 on
-pub mask_of_codes : (v z : List ℕ) → length v ≡ 16 → z ≡ map (λ x. cond (leb 16 x) 255 0) v → eqb (mask_l (map (top 7) z) % 18446744073709551616) 0 ≡ list_all (λ x. nat_lt x 16) v
-mask_of_codes v z long is =
-    let p : ℕ → Bool = λ x. top 7 (cond (leb 16 x) 255 0) in
-    let mask : mask_l (map (top 7) z) % 2 ^ 64 ≡ mask_l (map p v) = ap (λ l. mask_l l % 2 ^ 64) (ap (map (top 7)) is ∙ map-map (top 7) (λ x. cond (leb 16 x) 255 0) v) ∙ mask_l-mod (map p v) 64 (omega (arith, length-map v p, long)) in
-    ap (λ m. eqb m 0) mask ∙ none_set v
+-- no lane's mask is set where each byte passes the opposite test
+pub mask_is_none : (f : ℕ → ℕ) (q : ℕ → Bool) (v z : List ℕ) → (length v ≡ 16) × Each1 (Fits w8) v → z ≡ map f v → agree_below (λ x. not (top 7 (f x))) q 256 ≡ true → eqb (mask_l (map (top 7) z) % 18446744073709551616) 0 ≡ list_all q v
+mask_is_none f q v z fits is all =
+    let t : ℕ → Bool = λ x. top 7 (f x) in
+    let mask : mask_l (map (top 7) z) % 2 ^ 64 ≡ mask_l (map t v) = ap (λ l. mask_l l % 2 ^ 64) (ap (map (top 7)) is ∙ map-map (top 7) f v) ∙ mask_l-mod (map t v) 64 (omega (arith, length-map v t, fits.0)) in
+    ap (λ m. eqb m 0) mask ∙ none_set t q v fits.1 all

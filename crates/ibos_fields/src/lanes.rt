@@ -1,11 +1,29 @@
-// Many hexadecimal digits at once.
+// Many bytes at once.
 ghost use Rattle.std.specs.Prelude.{◌≡◌, ◌/◌, ◌%◌, ◌≤◌, ◌++◌, nat_lt, length, map, take, slice_index};
 ghost use Rattle.std.specs.List.{list_all};
 ghost use Rattle.std.specs.Option.{unwrap_or};
 ghost use Rattle.hex.specs.Hex.{decode_pairs, encode_lower, hex_digit_value, lower_digits};
 ghost use Rattle.ibos_fields.specs.Fields.{bytes_named};
+ghost use Rattle.ibos_fields.specs.Printable.{is_printable};
 
 use std::simd::prelude::*;
+
+/// Whether the first 16 bytes are printable.
+#[inline(always)]
+pub fn is_printable_block(text: &[u8]) -> bool
+    requires { 16 ≤ length text.now }
+    ensures { result ≡ list_all is_printable (take 16 text.now) }
+{
+    are_printable(u8x16::from_slice(text))
+}
+
+#[inline(always)]
+fn are_printable(bytes: u8x16) -> bool
+    ensures { result ≡ list_all is_printable bytes }
+{
+    let behind_space = bytes - u8x16::splat(b' ');
+    behind_space.simd_gt(u8x16::splat(b'~' - b' ')).to_bitmask() == 0
+}
 
 /// The 16 bytes of the first 32 digits, if that is what they are.
 #[inline(always)]

@@ -4,6 +4,8 @@
 mod fields;
 mod hexadecimal;
 mod lanes;
+mod printable;
 
 pub use fields::{read_hex_number, read_instance, read_key, read_number};
 pub use hexadecimal::{read_hex, write_digits};
+pub use printable::are_printable;
