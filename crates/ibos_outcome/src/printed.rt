@@ -7,6 +7,7 @@ ghost use Rattle.ibos_outcome.specs.Printed.{Appends, IsCutShort, outcome_text, 
 ghost use Rattle.ibos_outcome.specs.Printed.{head_text, item_text, items_text, pieces_text};
 ghost use Rattle.ibos_outcome.specs.Printed.{addr_text, hex_text, value_text, verdict_text};
 
+use ibos_fields::write_digits;
 use ibos_kinds::{Bytes, Endpoint, Handle, Head, Instance, Item, Memory, Outcome, Verdict};
 use itoa::Buffer;
 use std::alloc::Global;
@@ -590,9 +591,7 @@ fn push_few(text: &mut Bytes, bytes: &[u8]) -> Result<(), Memory>
 {
     let mut room = [0u8; 2 * PIECE];
     let digits = &mut room[..2 * bytes.len()];
-    let Ok(()) = hex::encode_to_slice(bytes, digits) else {
-        unreachable!()
-    };
+    write_digits(bytes, digits);
     text.push_slice(digits)
 }
 

@@ -1,11 +1,9 @@
 // The lines of a script.
 ghost use Rattle.std.specs.Prelude.{◌≡◌, IfOk, IfSome};
-ghost use Rattle.std.specs.List.{list_all};
 ghost use Rattle.ibos_text.specs.Words.{first_word, after_word};
 ghost use Rattle.ibos_script.specs.Faults.{Gives};
 ghost use Rattle.ibos_script.specs.Lines.{LineFits, line_in, act_in, user_in, page_in, net_in};
 ghost use Rattle.ibos_script.specs.Lines.{cookie_in, flow_in, dev_in, bell_in, wire_in, store_in};
-ghost use Rattle.ibos_fields.specs.Printable as printable;
 ghost use Rattle.ibos_script.specs.Lines as spec;
 
 use crate::fault::LineFault;
@@ -16,6 +14,7 @@ use crate::forms::{
     read_store_none, read_submit, read_switch, read_transmit_bell, read_transmit_post, read_unbind,
     read_wire_frame, read_wire_room,
 };
+use ibos_fields::are_printable;
 use ibos_kinds::{Act, Proto, Side};
 use ibos_text::next_word;
 use std::alloc::Global;
@@ -69,7 +68,7 @@ pub fn read_line(alloc: Global, line: &[u8]) -> Result<Option<Line>, LineFault>
     if line.len() > MAX_LINE {
         return Err(LineFault::Long);
     }
-    if !is_printable(line) {
+    if !are_printable(line) {
         return Err(LineFault::Byte);
     }
     if is_comment(line) {
@@ -80,17 +79,6 @@ pub fn read_line(alloc: Global, line: &[u8]) -> Result<Option<Line>, LineFault>
     };
     let line = read_act(alloc, actor, rest)?;
     Ok(Some(line))
-}
-
-// All bytes are looked at, wherever the first wrong one stands, so that many are compared at once.
-fn is_printable(line: &[u8]) -> bool
-    ensures { result ≡ list_all printable.is_printable line.now }
-{
-    let mut all = true;
-    for b in line {
-        all = all & (*b >= b' ') & (*b <= b'~');
-    }
-    all
 }
 
 fn is_comment(line: &[u8]) -> bool
