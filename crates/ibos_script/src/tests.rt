@@ -111,6 +111,7 @@ fn each_act_of_the_network_is_read(rt: HostRuntime) -> Result<(), Fail> {
     );
     let frame = bytes(alloc, b"JK")?;
     says(&rt, alloc, b"wire in 4a4B", Act::WireIn { frame });
+    assert!(rt; read_line(alloc, b" wire  next ") == Ok(Some(Line::NextFrame)));
     Ok(())
 }
 
@@ -213,7 +214,8 @@ fn other_lines_are_passed_over_or_refused(rt: HostRuntime) {
         (b"dev read 0x", LineFault::Number),
         (b"dev write 0x0 0x000000001", LineFault::Number),
         (b"dev rx 0 256 0", LineFault::Number),
-        (b"wire next", LineFault::Word),
+        (b"wire nex", LineFault::Word),
+        (b"wire next 0", LineFault::Count),
         (b"wire in", LineFault::Count),
         (b"wire in 0x", LineFault::Hex),
         (b"wire out 0", LineFault::Count),
