@@ -1,2 +1,3 @@
 mod WordCuts
 mod LineCuts
+mod PartLengths

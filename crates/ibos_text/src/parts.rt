@@ -4,8 +4,28 @@ ghost use Rattle.std.specs.Option.{option_copied};
 ghost use Rattle.ibos_text.specs.Parts as spec;
 ghost use Rattle.ibos_text.specs.Parts.{parts_of, parts_left};
 
+use memchr::memchr;
+
+// So many bytes are compared one by one, since most parts end among them.
+const FEW: usize = 16;
+
 /// How many bytes stand before the first `byte`, or before the end.
 pub fn len_before(text: &[u8], byte: u8) -> usize
+    ensures within { result ≤ length text.now }
+    ensures value { result ≡ spec.len_before byte text.now }
+{
+    let few = FEW.min(text.len());
+    let len = len_in_few(&text[..few], byte);
+    if len < few {
+        return len;
+    }
+    match memchr(byte, &text[few..]) {
+        Some(more) => few + more,
+        None => text.len(),
+    }
+}
+
+fn len_in_few(text: &[u8], byte: u8) -> usize
     ensures within { result ≤ length text.now }
     ensures value { result ≡ spec.len_before byte text.now }
 {

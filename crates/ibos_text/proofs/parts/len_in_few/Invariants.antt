@@ -1,7 +1,7 @@
 use Rattle.std.proofs.Common.{◌≡◌, ◌+◌, drop}
 use Rattle.std.specs.Prelude.{◌==◌}
 use Rattle.std.specs.List.{position_or_len}
-use Rattle.ibos_text.proofs.parts.len_before.Given as goal
+use Rattle.ibos_text.proofs.parts.len_in_few.Given as goal
 
 -- what was passed and what is left make the part
 abbrev pub invariant-loop-i : goal.invariant-loop-i
