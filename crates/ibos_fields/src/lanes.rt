@@ -77,7 +77,10 @@ fn high_digits(bytes: u8x16) -> u8x16
 {
     let values = bytes >> u8x16::splat(4);
     let is_decimal = values.simd_lt(u8x16::splat(10));
-    is_decimal.select(values + u8x16::splat(b'0'), values + u8x16::splat(b'a' - 10))
+    is_decimal.select(
+        values + u8x16::splat(b'0'),
+        values + u8x16::splat(b'a' - 10),
+    )
 }
 
 #[inline(always)]
@@ -86,5 +89,8 @@ fn low_digits(bytes: u8x16) -> u8x16
 {
     let values = bytes & u8x16::splat(15);
     let is_decimal = values.simd_lt(u8x16::splat(10));
-    is_decimal.select(values + u8x16::splat(b'0'), values + u8x16::splat(b'a' - 10))
+    is_decimal.select(
+        values + u8x16::splat(b'0'),
+        values + u8x16::splat(b'a' - 10),
+    )
 }

@@ -7,8 +7,8 @@ mod laws;
 mod lines;
 
 pub use fault::LineFault;
-pub use laws::{lines_name_their_actor, spelled_acts_are_read};
 pub use ibos_outcome::write_outcome;
+pub use laws::{lines_name_their_actor, spelled_acts_are_read};
 pub use lines::{Line, read_line};
 
 #[cfg(test)]

@@ -9,10 +9,10 @@ ghost use Rattle.ibos_script.specs.Lines as spec;
 use crate::fault::LineFault;
 use crate::forms::{
     read_ask, read_bind, read_click, read_close, read_cookie_get, read_cookie_set, read_done,
-    read_draw, read_fill, read_go, read_look, read_next_frame, read_open, read_press, read_put, read_receive_bell,
-    read_receive_post, read_register_read, read_register_write, read_store_answer, read_store_lose,
-    read_store_none, read_submit, read_switch, read_transmit_bell, read_transmit_post, read_unbind,
-    read_wire_frame, read_wire_room,
+    read_draw, read_fill, read_go, read_look, read_next_frame, read_open, read_press, read_put,
+    read_receive_bell, read_receive_post, read_register_read, read_register_write,
+    read_store_answer, read_store_lose, read_store_none, read_submit, read_switch,
+    read_transmit_bell, read_transmit_post, read_unbind, read_wire_frame, read_wire_room,
 };
 use ibos_fields::are_printable;
 use ibos_kinds::{Act, Proto, Side};

@@ -5,7 +5,7 @@ use Rattle.ibos_fields.proofs.EncodedDigits.{encode-none, length-written, writte
 use Rattle.ibos_fields.proofs.hexadecimal.write_digits.Goals as goal
 
 pub loop-at-init : goal.loop-at-init
-loop-at-init c = record { within = omega arith; written = sym encode-none; }
+loop-at-init c = record { within = omega arith; written = sym encode-none }
 
 pub loop-at-preserved : goal.loop-at-preserved
 loop-at-preserved c =
