@@ -1,11 +1,25 @@
 // A frame's header, and what it carries.
-ghost use Rattle.std.specs.Prelude.{◌≡◌, ◌+◌, ◌≤◌, None, Some, length, drop, IfOk, IfErr};
-ghost use Rattle.ibos_kinds.specs.Frames.{number, eth_dest, eth_source, eth_type, eth_payload};
+ghost use Rattle.std.specs.Prelude.{◌≡◌, ◌≤◌, None, Some, length, IfOk, IfErr};
+ghost use Rattle.ibos_kinds.specs.Frames.{eth_dest, eth_source, eth_type, eth_payload};
 ghost use Rattle.ibos_kinds.specs.Frames.{eth_broken};
 
 use byteorder::{BigEndian, ByteOrder};
 use ibos_kinds::Rule;
 use std::marker::Model;
+
+// The header's fields (IEEE 802.3, 3.1.1), with a type in place of a length (3.2.6).
+mod field {
+    use std::ops::Range;
+
+    pub const DESTINATION: Range<usize> = 0..6;
+
+    pub const SOURCE: Range<usize> = 6..12;
+
+    pub const TYPE: Range<usize> = 12..14;
+}
+
+// In bytes.
+const HEADER_LEN: usize = 14;
 
 // The type of IPv4.
 const IPV4: u16 = 0x0800;
@@ -46,7 +60,7 @@ impl<'a> EthView<'a> {
         ensures ok { IfOk result (λ view. (eth_broken frame.now ≡ None) × (view ≡ frame.now)) }
         ensures err { IfErr result (λ rule. eth_broken frame.now ≡ Some rule) }
     {
-        if frame.len() < 14 {
+        if frame.len() < HEADER_LEN {
             return Err(Rule::F1);
         }
         if type_of(frame) != IPV4 {
@@ -56,41 +70,34 @@ impl<'a> EthView<'a> {
     }
 
     /// The MAC address that the frame goes to.
+    #[tactic(auto, unfolding(ibos_kinds::specs::Frames::number))]
     pub fn dest(&self) -> u64
         ensures { result ≡ eth_dest self.now }
     {
-        mac_at(self.frame, 0)
+        BigEndian::read_u48(&self.frame[field::DESTINATION])
     }
 
     /// The MAC address that the frame comes from.
+    #[tactic(auto, unfolding(ibos_kinds::specs::Frames::number))]
     pub fn source(&self) -> u64
         ensures { result ≡ eth_source self.now }
     {
-        mac_at(self.frame, 6)
+        BigEndian::read_u48(&self.frame[field::SOURCE])
     }
 
     /// All that follows the header, an IPv4 datagram and what may follow it.
     pub fn payload(&self) -> &'a [u8]
         ensures { result.now ≡ eth_payload self.now }
     {
-        &self.frame[14..]
+        &self.frame[HEADER_LEN..]
     }
 }
 
-// The address at a place: six bytes.
-#[tactic(auto, unfolding(ibos_kinds::specs::Frames::number))]
-fn mac_at(frame: &[u8], place: usize) -> u64
-    requires { place + 6 ≤ length frame.now }
-    ensures { result ≡ number 6 (drop place frame.now) }
-{
-    BigEndian::read_u48(&frame[place..])
-}
-
-// The type of what is carried: two bytes after the addresses.
+// The type of what is carried.
 #[tactic(auto, unfolding(ibos_kinds::specs::Frames::number))]
 fn type_of(frame: &[u8]) -> u16
     requires { 14 ≤ length frame.now }
     ensures { result ≡ eth_type frame.now }
 {
-    BigEndian::read_u16(&frame[12..])
+    BigEndian::read_u16(&frame[field::TYPE])
 }
