@@ -1,7 +1,7 @@
 // A datagram's header, what it carries, and what follows it.
-ghost use Rattle.std.specs.Prelude.{◌≡◌, ◌+◌, ◌*◌, ◌%◌, ◌==◌, ◌≤◌, not, None, Some, length, drop};
-ghost use Rattle.std.specs.Prelude.{IfOk, IfErr};
-ghost use Rattle.ibos_kinds.specs.Frames.{number, ip_version, ip_words, ip_total, ip_fragment};
+ghost use Rattle.std.specs.Prelude.{◌≡◌, ◌*◌, ◌%◌, ◌==◌, ◌≤◌, not, None, Some, length, IfOk};
+ghost use Rattle.std.specs.Prelude.{IfErr};
+ghost use Rattle.ibos_kinds.specs.Frames.{ip_version, ip_words, ip_total, ip_fragment};
 ghost use Rattle.ibos_kinds.specs.Frames.{ip_protocol, ip_src, ip_dst, ip_payload, ip_tail};
 ghost use Rattle.ibos_kinds.specs.Frames.{is_equal_out, is_ip_form, ip_broken};
 
@@ -9,12 +9,31 @@ use byteorder::{BigEndian, ByteOrder};
 use ibos_kinds::{Dir, Rule, sum16};
 use std::marker::Model;
 
+// The header's fields (RFC 791, 3.1).
+mod field {
+    use std::ops::Range;
+
+    pub const VERSION_IHL: usize = 0;
+
+    pub const TOTAL_LENGTH: Range<usize> = 2..4;
+
+    pub const FLAGS_FRAGMENT_OFFSET: Range<usize> = 6..8;
+
+    pub const PROTOCOL: usize = 9;
+
+    pub const SOURCE_ADDRESS: Range<usize> = 12..16;
+
+    pub const DESTINATION_ADDRESS: Range<usize> = 16..20;
+}
+
+const VERSION: u8 = 4;
+
 // The length of a header without options, in bytes and in words of four bytes.
-const HEADER: usize = 20;
+const HEADER_LEN: usize = 20;
 
-const WORDS: u8 = 5;
+const HEADER_WORDS: u8 = 5;
 
-// Of the word that has flags and fragment offset: more fragments, and the offset.
+// Of the field that has flags and fragment offset: more fragments, and the offset.
 const FRAGMENT: u16 = 0x3FFF;
 
 /// An IPv4 datagram (RFC 791) that is whole, and what follows it, borrowed. Contracts see the
@@ -70,24 +89,26 @@ impl<'a> IpView<'a> {
     }
 
     /// The address that the datagram comes from.
+    #[tactic(auto, unfolding(ibos_kinds::specs::Frames::number))]
     pub fn src(&self) -> u32
         ensures { result ≡ ip_src self.now }
     {
-        addr_at(self.bytes, 12)
+        BigEndian::read_u32(&self.bytes[field::SOURCE_ADDRESS])
     }
 
     /// The address that the datagram goes to.
+    #[tactic(auto, unfolding(ibos_kinds::specs::Frames::number))]
     pub fn dst(&self) -> u32
         ensures { result ≡ ip_dst self.now }
     {
-        addr_at(self.bytes, 16)
+        BigEndian::read_u32(&self.bytes[field::DESTINATION_ADDRESS])
     }
 
     /// The number of the protocol that is carried.
     pub fn protocol(&self) -> u8
         ensures { result ≡ ip_protocol self.now }
     {
-        self.bytes[9]
+        self.bytes[field::PROTOCOL]
     }
 
     /// What the datagram carries: all that its total length covers after the header.
@@ -109,12 +130,20 @@ impl<'a> IpView<'a> {
 fn is_formed(bytes: &[u8], dir: Dir) -> bool
     ensures { result ≡ is_ip_form dir bytes.now }
 {
-    bytes.len() >= HEADER
-        && bytes[0] / 16 == 4
-        && bytes[0] % 16 >= WORDS
+    bytes.len() >= HEADER_LEN
+        && bytes[field::VERSION_IHL] / 16 == VERSION
+        && header_words(bytes) >= HEADER_WORDS
         && header_len(bytes) <= total_len(bytes)
         && total_len(bytes) <= bytes.len()
-        && (dir == Dir::In || bytes[0] % 16 == WORDS)
+        && (dir == Dir::In || header_words(bytes) == HEADER_WORDS)
+}
+
+// The length of the header in words, IHL.
+fn header_words(bytes: &[u8]) -> u8
+    requires { 20 ≤ length bytes.now }
+    ensures { result ≡ ip_words bytes.now }
+{
+    bytes[field::VERSION_IHL] % 16
 }
 
 // The length of the header, its options included.
@@ -122,39 +151,23 @@ fn header_len(bytes: &[u8]) -> usize
     requires { 20 ≤ length bytes.now }
     ensures { result ≡ 4 * ip_words bytes.now }
 {
-    4 * (bytes[0] % 16) as usize
+    4 * header_words(bytes) as usize
 }
 
 // The length of header and data.
+#[tactic(auto, unfolding(ibos_kinds::specs::Frames::number))]
 fn total_len(bytes: &[u8]) -> usize
     requires { 20 ≤ length bytes.now }
     ensures { result ≡ ip_total bytes.now }
 {
-    word_at(bytes, 2) as usize
+    BigEndian::read_u16(&bytes[field::TOTAL_LENGTH]) as usize
 }
 
 // Whether more fragments follow, or this is one at an offset.
+#[tactic(auto, unfolding(ibos_kinds::specs::Frames::number))]
 fn is_fragment(bytes: &[u8]) -> bool
     requires { 20 ≤ length bytes.now }
     ensures { result ≡ not (ip_fragment bytes.now % 0x4000 == 0) }
 {
-    word_at(bytes, 6) & FRAGMENT != 0
-}
-
-// The number in two bytes.
-#[tactic(auto, unfolding(ibos_kinds::specs::Frames::number))]
-fn word_at(bytes: &[u8], place: usize) -> u16
-    requires { place + 2 ≤ length bytes.now }
-    ensures { result ≡ number 2 (drop place bytes.now) }
-{
-    BigEndian::read_u16(&bytes[place..])
-}
-
-// The address at a place: four bytes.
-#[tactic(auto, unfolding(ibos_kinds::specs::Frames::number))]
-fn addr_at(bytes: &[u8], place: usize) -> u32
-    requires { place + 4 ≤ length bytes.now }
-    ensures { result ≡ number 4 (drop place bytes.now) }
-{
-    BigEndian::read_u32(&bytes[place..])
+    BigEndian::read_u16(&bytes[field::FLAGS_FRAGMENT_OFFSET]) & FRAGMENT != 0
 }
