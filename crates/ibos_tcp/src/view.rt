@@ -1,25 +1,40 @@
 // A segment's header, and what it carries.
-ghost use Rattle.std.specs.Prelude.{◌≡◌, ◌+◌, ◌*◌, ◌≤◌, ◌++◌, None, Some, length, drop, IfOk};
-ghost use Rattle.std.specs.Prelude.{IfErr};
+ghost use Rattle.std.specs.Prelude.{◌≡◌, ◌*◌, ◌≤◌, ◌++◌, None, Some, length, IfOk, IfErr};
 ghost use Rattle.ibos_tcp.specs.Segments.{HasLengths};
 ghost use Rattle.ibos_kinds.specs.Sums.{sum16};
-ghost use Rattle.ibos_kinds.specs.Frames.{number, proto_of, proto_in, seg_src_port, seg_dst_port};
-ghost use Rattle.ibos_kinds.specs.Frames.{tcp_words, udp_len, seg_payload, pseudo_header};
-ghost use Rattle.ibos_kinds.specs.Frames.{is_equal_out, is_seg_form, is_seg_sum, seg_broken};
+ghost use Rattle.ibos_kinds.specs.Frames.{proto_of, proto_in, seg_src_port, seg_dst_port};
+ghost use Rattle.ibos_kinds.specs.Frames.{tcp_words, udp_checksum, udp_len, seg_payload};
+ghost use Rattle.ibos_kinds.specs.Frames.{pseudo_header, is_equal_out, is_seg_form, is_seg_sum};
+ghost use Rattle.ibos_kinds.specs.Frames.{seg_broken};
 
 use crate::pseudo::pseudo_sum;
 use byteorder::{BigEndian, ByteOrder};
 use ibos_kinds::{Dir, Proto, Rule, sum_words};
 use std::marker::Model;
 
-// The numbers of the protocols, and the lengths of their headers without options.
+// The fields with which both headers begin, and those of each (RFC 9293, 3.1, and RFC 768).
+mod field {
+    use std::ops::Range;
+
+    pub const SOURCE_PORT: Range<usize> = 0..2;
+
+    pub const DESTINATION_PORT: Range<usize> = 2..4;
+
+    pub const TCP_DATA_OFFSET: usize = 12;
+
+    pub const UDP_LENGTH: Range<usize> = 4..6;
+
+    pub const UDP_CHECKSUM: Range<usize> = 6..8;
+}
+
+// The numbers of the protocols, and the lengths of their headers without options, in bytes.
 const TCP: u8 = 6;
 
 const UDP: u8 = 17;
 
-const TCP_HEADER: usize = 20;
+const TCP_HEADER_LEN: usize = 20;
 
-const UDP_HEADER: usize = 8;
+const UDP_HEADER_LEN: usize = 8;
 
 /// A TCP segment or a UDP datagram, borrowed. Contracts see its protocol and its bytes.
 ///
@@ -89,17 +104,19 @@ impl<'a> SegView<'a> {
     }
 
     /// The port that the segment comes from.
+    #[tactic(auto, unfolding(ibos_kinds::specs::Frames::number))]
     pub fn src_port(&self) -> u16
         ensures { result ≡ seg_src_port self.now.bytes }
     {
-        word_at(self.bytes, 0)
+        BigEndian::read_u16(&self.bytes[field::SOURCE_PORT])
     }
 
     /// The port that the segment goes to.
+    #[tactic(auto, unfolding(ibos_kinds::specs::Frames::number))]
     pub fn dst_port(&self) -> u16
         ensures { result ≡ seg_dst_port self.now.bytes }
     {
-        word_at(self.bytes, 2)
+        BigEndian::read_u16(&self.bytes[field::DESTINATION_PORT])
     }
 
     /// What the segment carries: over TCP all that follows the header, over UDP what the length
@@ -109,7 +126,7 @@ impl<'a> SegView<'a> {
     {
         match self.proto {
             Proto::Tcp => &self.bytes[tcp_header_len(self.bytes)..],
-            Proto::Udp => &self.bytes[UDP_HEADER..udp_len(self.bytes)],
+            Proto::Udp => &self.bytes[UDP_HEADER_LEN..udp_len(self.bytes)],
         }
     }
 }
@@ -131,13 +148,13 @@ fn is_formed(proto: Proto, bytes: &[u8], dir: Dir) -> bool
 {
     match proto {
         Proto::Tcp => {
-            bytes.len() >= TCP_HEADER
-                && tcp_header_len(bytes) >= TCP_HEADER
+            bytes.len() >= TCP_HEADER_LEN
+                && tcp_header_len(bytes) >= TCP_HEADER_LEN
                 && tcp_header_len(bytes) <= bytes.len()
         }
         Proto::Udp => {
-            bytes.len() >= UDP_HEADER
-                && udp_len(bytes) >= UDP_HEADER
+            bytes.len() >= UDP_HEADER_LEN
+                && udp_len(bytes) >= UDP_HEADER_LEN
                 && udp_len(bytes) <= bytes.len()
                 && (dir == Dir::In || udp_len(bytes) == bytes.len())
         }
@@ -152,7 +169,7 @@ fn is_summed(proto: Proto, src: u32, dst: u32, bytes: &[u8]) -> bool
     match proto {
         Proto::Tcp => checksum(src, dst, TCP, bytes) == 0,
         Proto::Udp => {
-            word_at(bytes, 6) == 0 || checksum(src, dst, UDP, &bytes[..udp_len(bytes)]) == 0
+            udp_checksum(bytes) == 0 || checksum(src, dst, UDP, &bytes[..udp_len(bytes)]) == 0
         }
     }
 }
@@ -171,22 +188,23 @@ fn tcp_header_len(bytes: &[u8]) -> usize
     requires { 20 ≤ length bytes.now }
     ensures { result ≡ 4 * tcp_words bytes.now }
 {
-    4 * (bytes[12] / 16) as usize
+    4 * (bytes[field::TCP_DATA_OFFSET] / 16) as usize
 }
 
 // The length of UDP header and data.
+#[tactic(auto, unfolding(ibos_kinds::specs::Frames::number))]
 fn udp_len(bytes: &[u8]) -> usize
     requires { 8 ≤ length bytes.now }
     ensures { result ≡ udp_len bytes.now }
 {
-    word_at(bytes, 4) as usize
+    BigEndian::read_u16(&bytes[field::UDP_LENGTH]) as usize
 }
 
-// The number in two bytes.
+// The checksum of UDP, where 0 is none.
 #[tactic(auto, unfolding(ibos_kinds::specs::Frames::number))]
-fn word_at(bytes: &[u8], place: usize) -> u16
-    requires { place + 2 ≤ length bytes.now }
-    ensures { result ≡ number 2 (drop place bytes.now) }
+fn udp_checksum(bytes: &[u8]) -> u16
+    requires { 8 ≤ length bytes.now }
+    ensures { result ≡ udp_checksum bytes.now }
 {
-    BigEndian::read_u16(&bytes[place..])
+    BigEndian::read_u16(&bytes[field::UDP_CHECKSUM])
 }
