@@ -6,14 +6,40 @@ ghost use Rattle.ibos_capture.specs.Captures.{is_version, is_ethernet};
 use crate::fault::CapFault;
 use crate::fields::Endian;
 
+// The fields of a capture's header that are looked at (pcap 2.4, the file header).
+mod field {
+    use std::ops::Range;
+
+    pub const MAGIC_NUMBER: Range<usize> = 0..4;
+
+    pub const MAJOR_VERSION: Range<usize> = 4..6;
+
+    pub const MINOR_VERSION: Range<usize> = 6..8;
+
+    pub const LINK_TYPE: Range<usize> = 20..24;
+}
+
+// And of an entry's header (pcap 2.4, a packet record).
+mod entry_field {
+    use std::ops::Range;
+
+    pub const CAPTURED_LENGTH: Range<usize> = 8..12;
+}
+
 // In bytes.
+pub const HEADER_LEN: usize = 24;
+
+pub const ENTRY_HEADER_LEN: usize = 16;
+
+const MAGIC_NUMBER_LEN: usize = 4;
+
 const MAX_CAPTURE: usize = 67_108_864;
 
 const MAX_CAPTURED: u32 = 262_144;
 
-pub const HEADER: usize = 24;
+const MAJOR_VERSION: u16 = 2;
 
-pub const ENTRY_HEADER: usize = 16;
+const MINOR_VERSION: u16 = 4;
 
 // Times in microseconds, and in nanoseconds.
 const MICROSECONDS: u32 = 0xA1B2_C3D4;
@@ -35,7 +61,7 @@ pub fn read_header(bytes: &[u8]) -> Result<Endian, CapFault>
     let Some(endian) = endian_of(bytes) else {
         return Err(CapFault::Magic);
     };
-    if bytes.len() < HEADER {
+    if bytes.len() < HEADER_LEN {
         return Err(CapFault::Cut);
     }
     if !is_version(endian, bytes) {
@@ -52,11 +78,11 @@ pub fn read_header(bytes: &[u8]) -> Result<Endian, CapFault>
 fn endian_of(bytes: &[u8]) -> Option<Endian>
     ensures { result ≡ endian_of bytes.now }
 {
-    if bytes.len() < 4 {
+    if bytes.len() < MAGIC_NUMBER_LEN {
         None
-    } else if is_magic(Endian::Big.u32_at(bytes, 0)) {
+    } else if is_magic(Endian::Big.u32_at(bytes, field::MAGIC_NUMBER)) {
         Some(Endian::Big)
-    } else if is_magic(Endian::Little.u32_at(bytes, 0)) {
+    } else if is_magic(Endian::Little.u32_at(bytes, field::MAGIC_NUMBER)) {
         Some(Endian::Little)
     } else {
         None
@@ -74,14 +100,15 @@ fn is_version(endian: Endian, bytes: &[u8]) -> bool
     requires { 24 ≤ length bytes.now }
     ensures { result ≡ is_version endian bytes.now }
 {
-    endian.u16_at(bytes, 4) == 2 && endian.u16_at(bytes, 6) == 4
+    endian.u16_at(bytes, field::MAJOR_VERSION) == MAJOR_VERSION
+        && endian.u16_at(bytes, field::MINOR_VERSION) == MINOR_VERSION
 }
 
 fn is_ethernet(endian: Endian, bytes: &[u8]) -> bool
     requires { 24 ≤ length bytes.now }
     ensures { result ≡ is_ethernet endian bytes.now }
 {
-    endian.u32_at(bytes, 20) == ETHERNET
+    endian.u32_at(bytes, field::LINK_TYPE) == ETHERNET
 }
 
 // The number of captured bytes of the entry with which the bytes begin, where it has no fault.
@@ -90,14 +117,14 @@ pub fn captured_len(endian: Endian, rest: &[u8]) -> Result<u32, CapFault>
     ensures exact { result ≡ captured_len endian rest.now }
     ensures whole { IfOk result (λ len. 16 + len ≤ length rest.now) }
 {
-    if rest.len() < ENTRY_HEADER {
+    if rest.len() < ENTRY_HEADER_LEN {
         return Err(CapFault::Cut);
     }
-    let len = endian.u32_at(rest, 8);
+    let len = endian.u32_at(rest, entry_field::CAPTURED_LENGTH);
     if len > MAX_CAPTURED {
         return Err(CapFault::Long);
     }
-    if rest.len() - ENTRY_HEADER < len as usize {
+    if rest.len() - ENTRY_HEADER_LEN < len as usize {
         return Err(CapFault::Cut);
     }
     Ok(len)

@@ -9,7 +9,7 @@ ghost use Rattle.ibos_capture.specs.Reads.{Reads};
 
 use crate::fault::CaptureFault;
 use crate::fields::Endian;
-use crate::header::{ENTRY_HEADER, HEADER, captured_len, read_header};
+use crate::header::{ENTRY_HEADER_LEN, HEADER_LEN, captured_len, read_header};
 use ibos_kinds::Memory;
 use std::alloc::Global;
 use std::marker::Model;
@@ -80,12 +80,16 @@ impl Index {
         ensures within { IfOk result (λ index. All (IsWithin bytes.now) index) }
     {
         let mut entries = Vec::new(alloc);
-        let mut place = HEADER;
+        let mut place = HEADER_LEN;
         'entries: while place < bytes.len() {
             match captured_len(endian, &bytes[place..]) {
                 Ok(len) => {
-                    place += ENTRY_HEADER;
-                    push(&mut entries, place as u32, len)?;
+                    place += ENTRY_HEADER_LEN;
+                    let next = Entry {
+                        place: place as u32,
+                        len,
+                    };
+                    push(&mut entries, next)?;
                     place += len as usize;
                 }
                 Err(fault) => {
@@ -117,9 +121,9 @@ impl Index {
     }
 }
 
-fn push(entries: &mut Vec<Entry>, place: u32, len: u32) -> Result<(), Memory>
-    ensures ok { OnOk result (entries.new.items ≡ entries.old.items ++ entry place len ∷ []) }
+fn push(entries: &mut Vec<Entry>, next: Entry) -> Result<(), Memory>
+    ensures ok { OnOk result (entries.new.items ≡ entries.old.items ++ next ∷ []) }
 {
-    entries.push(Entry { place, len })?;
+    entries.push(next)?;
     Ok(())
 }
