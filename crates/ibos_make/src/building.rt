@@ -8,18 +8,38 @@ ghost use Rattle.ibos_make.specs.Building.{protocol_number, header_len, ip_for, 
 ghost use Rattle.ibos_make.specs.Building.{parts_with, ip_checksum_for, written, parts_for};
 ghost use Rattle.ibos_make.specs.Building.{receiver, sender, HasAddrs, HasPorts};
 
+use crate::fields::{ethernet, ipv4, tcp, udp};
 use ibos_kinds::{Bytes, Dir, Endpoint, Memory, Proto, sum_words, sum16};
 use ibos_tcp::pseudo_sum;
 use std::alloc::Global;
 
-// The lengths of the headers without options, in bytes.
-const ETHERNET: usize = 14;
+// The type of IPv4.
+const IPV4: u16 = 0x0800;
 
-const IPV4: usize = 20;
+// What each header of IPv4 says (RFC 791, 3.1): version 4 and a length of five words, the flag DF
+// and no offset, and a life of so many hops.
+const VERSION_IHL: u8 = 0x45;
 
-const TCP_HEADER: usize = 20;
+const DONT_FRAGMENT: u16 = 0x4000;
 
-const UDP_HEADER: usize = 8;
+const TIME_TO_LIVE: u8 = 64;
+
+// The numbers of the protocols.
+const TCP: u8 = 6;
+
+const UDP: u8 = 17;
+
+// What each header of TCP says (RFC 9293, 3.1): a length of five words, the flags PSH and ACK, and
+// a window in bytes.
+const SEQUENCE: u32 = 1;
+
+const ACKNOWLEDGEMENT: u32 = 1;
+
+const DATA_OFFSET: u8 = 0x50;
+
+const PSH_ACK: u8 = 0x18;
+
+const WINDOW: u16 = 8_192;
 
 /// What a frame is to say: the MAC addresses that it goes to and comes from, its ends, and its
 /// payload.
@@ -119,7 +139,7 @@ fn joined(alloc: Global, spec: &FrameSpec, header: &[u8]) -> Result<Bytes, Memor
 {
     let checksum = sum16(&ip_header(spec, 0));
     let mut frame = Bytes::new(alloc);
-    frame.reserve(ETHERNET + IPV4 + header.len() + spec.payload.len())?;
+    frame.reserve(ethernet::HEADER_LEN + ipv4::HEADER_LEN + header.len() + spec.payload.len())?;
     frame.push_slice(&eth_header(spec))?;
     frame.push_slice(&ip_header(spec, checksum))?;
     frame.push_slice(header)?;
@@ -155,41 +175,48 @@ fn eth_header(spec: &FrameSpec) -> [u8; 14]
     ensures { result ≡ bytes_high_first 6 spec.now.to ++ bytes_high_first 6 spec.now.from
         ++ bytes_high_first 2 0x0800 }
 {
-    let [_, _, a, b, c, d, e, f] = spec.to.to_be_bytes();
-    let [_, _, g, h, i, j, k, l] = spec.from.to_be_bytes();
-    [a, b, c, d, e, f, g, h, i, j, k, l, 0x08, 0x00]
+    let mut header = [0; ethernet::HEADER_LEN];
+    header[ethernet::DESTINATION].copy_from_slice(&spec.to.to_be_bytes()[2..]);
+    header[ethernet::SOURCE].copy_from_slice(&spec.from.to_be_bytes()[2..]);
+    header[ethernet::TYPE].copy_from_slice(&IPV4.to_be_bytes());
+    header
 }
 
-// The header of IPv4, with a checksum.
+// The header of IPv4, with a checksum. Type of service and identification are 0.
 fn ip_header(spec: &FrameSpec, checksum: u16) -> [u8; 20]
     requires { length spec.now.payload ≤ 1460 }
     ensures bytes { result ≡ ip_bytes (ip_for spec.now checksum) }
     ensures addrs { HasAddrs spec.now }
 {
-    let total = (IPV4 + header_len(spec.proto) + spec.payload.len()) as u16;
-    let [t, u] = total.to_be_bytes();
-    let [x, y] = checksum.to_be_bytes();
-    let [a, b, c, d, e, f, g, h] = addrs(spec.src, spec.dst);
-    let protocol = protocol_number(spec.proto);
-    // Version and IHL, type of service, total length, identification, flags and offset, time to
-    // live, protocol, checksum, addresses.
-    [
-        0x45, 0, t, u, 0, 0, 0x40, 0, 64, protocol, x, y, a, b, c, d, e, f, g, h,
-    ]
+    let total = (ipv4::HEADER_LEN + header_len(spec.proto) + spec.payload.len()) as u16;
+    let mut header = [0; ipv4::HEADER_LEN];
+    header[ipv4::VERSION_IHL] = VERSION_IHL;
+    header[ipv4::TOTAL_LENGTH].copy_from_slice(&total.to_be_bytes());
+    header[ipv4::FLAGS_FRAGMENT_OFFSET].copy_from_slice(&DONT_FRAGMENT.to_be_bytes());
+    header[ipv4::TIME_TO_LIVE] = TIME_TO_LIVE;
+    header[ipv4::PROTOCOL] = protocol_number(spec.proto);
+    header[ipv4::CHECKSUM].copy_from_slice(&checksum.to_be_bytes());
+    header[ipv4::SOURCE_ADDRESS].copy_from_slice(&address_bytes(spec.src));
+    header[ipv4::DESTINATION_ADDRESS].copy_from_slice(&address_bytes(spec.dst));
+    header
 }
 
-// The header of TCP, with a checksum.
+// The header of TCP, with a checksum. The urgent pointer is 0.
 fn tcp_header(spec: &FrameSpec, checksum: u16) -> [u8; 20]
     requires { spec.now.proto ≡ Proto.Tcp }
     ensures bytes { (ip : ℕ) → result ≡ segment_bytes (parts_with spec.now ip checksum) }
     ensures ports { HasPorts spec.now }
 {
-    let [a, b, c, d] = ports(spec.src, spec.dst);
-    let [x, y] = checksum.to_be_bytes();
-    // Ports, sequence, acknowledgement, data offset, flags, window, checksum, urgent pointer.
-    [
-        a, b, c, d, 0, 0, 0, 1, 0, 0, 0, 1, 0x50, 0x18, 0x20, 0x00, x, y, 0, 0,
-    ]
+    let mut header = [0; tcp::HEADER_LEN];
+    header[tcp::SOURCE_PORT].copy_from_slice(&port_bytes(spec.src));
+    header[tcp::DESTINATION_PORT].copy_from_slice(&port_bytes(spec.dst));
+    header[tcp::SEQUENCE_NUMBER].copy_from_slice(&SEQUENCE.to_be_bytes());
+    header[tcp::ACKNOWLEDGEMENT_NUMBER].copy_from_slice(&ACKNOWLEDGEMENT.to_be_bytes());
+    header[tcp::DATA_OFFSET] = DATA_OFFSET;
+    header[tcp::FLAGS] = PSH_ACK;
+    header[tcp::WINDOW].copy_from_slice(&WINDOW.to_be_bytes());
+    header[tcp::CHECKSUM].copy_from_slice(&checksum.to_be_bytes());
+    header
 }
 
 // The header of UDP, with a checksum.
@@ -199,10 +226,13 @@ fn udp_header(spec: &FrameSpec, checksum: u16) -> [u8; 8]
     ensures bytes { (ip : ℕ) → result ≡ segment_bytes (parts_with spec.now ip checksum) }
     ensures ports { HasPorts spec.now }
 {
-    let [a, b, c, d] = ports(spec.src, spec.dst);
-    let [l, m] = ((UDP_HEADER + spec.payload.len()) as u16).to_be_bytes();
-    let [x, y] = checksum.to_be_bytes();
-    [a, b, c, d, l, m, x, y]
+    let len = (udp::HEADER_LEN + spec.payload.len()) as u16;
+    let mut header = [0; udp::HEADER_LEN];
+    header[udp::SOURCE_PORT].copy_from_slice(&port_bytes(spec.src));
+    header[udp::DESTINATION_PORT].copy_from_slice(&port_bytes(spec.dst));
+    header[udp::LENGTH].copy_from_slice(&len.to_be_bytes());
+    header[udp::CHECKSUM].copy_from_slice(&checksum.to_be_bytes());
+    header
 }
 
 // The number of a protocol.
@@ -210,8 +240,8 @@ fn protocol_number(proto: Proto) -> u8
     ensures { result ≡ protocol_number proto }
 {
     match proto {
-        Proto::Tcp => 6,
-        Proto::Udp => 17,
+        Proto::Tcp => TCP,
+        Proto::Udp => UDP,
     }
 }
 
@@ -220,29 +250,23 @@ fn header_len(proto: Proto) -> usize
     ensures { result ≡ header_len proto }
 {
     match proto {
-        Proto::Tcp => TCP_HEADER,
-        Proto::Udp => UDP_HEADER,
+        Proto::Tcp => tcp::HEADER_LEN,
+        Proto::Udp => udp::HEADER_LEN,
     }
 }
 
-// The ports, with which each segment begins. A caller knows from here that they have 16 bits.
-fn ports(src: Endpoint, dst: Endpoint) -> [u8; 4]
-    ensures bytes { result ≡ bytes_high_first 2 src.port ++ bytes_high_first 2 dst.port }
-    ensures src { src.port < 2 ^ 16 }
-    ensures dst { dst.port < 2 ^ 16 }
+// The bytes of an address. A caller knows from here that it has 32 bits.
+fn address_bytes(end: Endpoint) -> [u8; 4]
+    ensures bytes { result ≡ bytes_high_first 4 end.addr }
+    ensures fits { end.addr < 2 ^ 32 }
 {
-    let [a, b] = src.port.to_be_bytes();
-    let [c, d] = dst.port.to_be_bytes();
-    [a, b, c, d]
+    end.addr.to_be_bytes()
 }
 
-// The addresses of IPv4, likewise.
-fn addrs(src: Endpoint, dst: Endpoint) -> [u8; 8]
-    ensures bytes { result ≡ bytes_high_first 4 src.addr ++ bytes_high_first 4 dst.addr }
-    ensures src { src.addr < 2 ^ 32 }
-    ensures dst { dst.addr < 2 ^ 32 }
+// The bytes of a port, likewise.
+fn port_bytes(end: Endpoint) -> [u8; 2]
+    ensures bytes { result ≡ bytes_high_first 2 end.port }
+    ensures fits { end.port < 2 ^ 16 }
 {
-    let [a, b, c, d] = src.addr.to_be_bytes();
-    let [e, f, g, h] = dst.addr.to_be_bytes();
-    [a, b, c, d, e, f, g, h]
+    end.port.to_be_bytes()
 }

@@ -3,6 +3,7 @@
 
 mod building;
 mod drilling;
+mod fields;
 mod laws;
 mod opening;
 mod rounds;
