@@ -10,7 +10,7 @@ use Rattle.ibos_mediate.specs.Keeps.{Keeps, SameNames, SameRegisters}
 use Rattle.ibos_mediate.specs.Mediated.{Mediated, RingView, ring_of}
 use Rattle.ibos_mediate.specs.Relation.{AreOwned, AreUnheld, IsAtDevice, IsInMemory, IsLoanFor, completed}
 use Rattle.ibos_recv.proofs.Spendings.{GiftLaws, Leaves, has-same, leaves, names_in}
-use Rattle.ibos_recv.proofs.Words.{AreAtHand, Held, Inboxes, Instance, IsKept, IsMarked, IsServed, IsSpent, Memory, Name, Names, Place, Receive, Ring, Transmit, descriptor_bytes, has_name, held_in, inbox_by, is_taken, room_slots, same_name, slot_address, slot_at}
+use Rattle.ibos_recv.proofs.Words.{AreAtHand, Held, Inboxes, Instance, IsKept, IsMarked, IsServed, IsSpent, Memory, Name, Names, Place, Receive, Ring, Transmit, descriptor_bytes, held_in, inbox_by, is_taken, room_slots, same_name, slot_address, slot_at}
 
 -- what a bell works on
 pub record State : Type 0 where

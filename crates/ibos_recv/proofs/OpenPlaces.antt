@@ -2,9 +2,9 @@
 use Rattle.std.proofs.Common.{◌≡◌, ◌≢◌, ◌↔◌, ℕ, ◌<◌, Bool, true, false, List, ◌∷◌, ◌++◌, length, refl, sym, ◌∙◌, ap, subst, arith, get_or}
 use Rattle.std.specs.Prelude.{Option, Some, None, slice_set}
 use Rattle.std.proofs.lemmas.List.{append_assoc, get_or_read}
-use Rattle.ibos_recv.proofs.PartedHands.{clash, comes_first, front_of, goes_back, in_left, in_right, kept_in, none_shared, rotated}
+use Rattle.ibos_recv.proofs.PartedHands.{clash, comes_first, front_of, goes_back, rotated}
 use Rattle.ibos_recv.proofs.TablePlaces.{Around, around, inbox-at, inbox-set_other, inbox-set_same, place_within, same_is, same_self}
-use Rattle.ibos_recv.proofs.Words.{AreAtHand, Held, Inbox, Inboxes, Instance, IsNamed, IsPassed, Memory, Names, Place, frames_at, frames_of, has_place, held_at, held_in, inbox_by, inbox_place, same}
+use Rattle.ibos_recv.proofs.Words.{AreAtHand, Held, Inbox, Inboxes, Instance, IsNamed, IsPassed, Memory, Names, held_at, held_in, inbox_by, inbox_place, same}
 
 -- What is there, and what another inbox in its place makes of the table.
 pub record IsOpenAt (t now : Inboxes) (who : Instance) (at : ℕ) (x : Option Inbox) : Type 0 where

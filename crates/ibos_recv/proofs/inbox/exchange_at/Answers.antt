@@ -1,4 +1,4 @@
-use Rattle.std.proofs.Common.{◌≡◌, ◌+◌, ◌-◌, length, arith, sym, ◌∙◌, ap, get_or, set, vec_len}
+use Rattle.std.proofs.Common.{◌-◌, arith, ◌∙◌, ap, set, vec_len}
 use Rattle.std.proofs.lemmas.List.{get_or_read}
 use Rattle.ibos_recv.proofs.Passings.{put-back}
 use Rattle.ibos_recv.proofs.Words.{Held, no_buffer}
