@@ -21,7 +21,7 @@ use Rattle.ibos_fields.proofs.Words.{all_weaker, len_before-front}
 
 -- ---- numbers
 
-abbrev AreDigits : List ℕ → Type 0
+abbrev pub AreDigits : List ℕ → Type 0
 AreDigits ds = list_all is_digit ds ≡ true
 
 both_of : (first rest : Bool) → (first && rest) ≡ true → (first ≡ true) × (rest ≡ true)
@@ -49,6 +49,9 @@ folds = record {
 
 own : IsNumeralModel AreDigits value_of
 own = numerals_by_fold AreDigits tells (λ n ds. fold (λ n b. 10 * n + (b - 48)) n ds) folds
+
+pub number_digits : (n : ℕ) → n < 2 ^ 64 → AreDigits (decimal n)
+number_digits n small = digits_decimal own n small
 
 digit_graph : (b : ℕ) → is_digit b ≡ true → is_graph b ≡ true
 digit_graph b h = grind (arith, nat_tests, h)

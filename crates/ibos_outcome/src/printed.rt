@@ -43,8 +43,9 @@ fn write_items(alloc: Global, digits: &[u8], items: &[Item], text: &mut Bytes) -
     Ok(())
 }
 
+/// Appends the line of a head.
 #[tactic(auto, unfolding(crate::specs::Printed::line_text, crate::specs::Printed::head_text))]
-fn write_head(digits: &[u8], head: Head, text: &mut Bytes) -> Result<(), Memory>
+pub fn write_head(digits: &[u8], head: Head, text: &mut Bytes) -> Result<(), Memory>
     ensures { Appends result text.old text.new (line_text digits.now (head_text head)) }
 {
     match head {
@@ -56,8 +57,9 @@ fn write_head(digits: &[u8], head: Head, text: &mut Bytes) -> Result<(), Memory>
     }
 }
 
+/// Appends the line of an item.
 #[tactic(auto, unfolding(crate::specs::Printed::line_text, crate::specs::Printed::item_text))]
-fn write_item(alloc: Global, digits: &[u8], item: &Item, text: &mut Bytes) -> Result<(), Memory>
+pub fn write_item(alloc: Global, digits: &[u8], item: &Item, text: &mut Bytes) -> Result<(), Memory>
     ensures { Appends result text.old text.new (line_text digits.now (item_text item.now)) }
 {
     match item {

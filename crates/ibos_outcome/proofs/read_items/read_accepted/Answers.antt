@@ -1,0 +1,6 @@
+use Rattle.std.proofs.Common.{◌∙◌, sym}
+use Rattle.ibos_outcome.proofs.ReadWords.{hex_small}
+use Rattle.ibos_outcome.proofs.read_items.read_accepted.Goals as goal
+
+pub returns-clause-canonical : goal.returns-clause-canonical
+returns-clause-canonical c = (c.in-Some.ensures.below, c.in-Some-read_instance.ensures.named, hex_small _ _ (sym c.in_ok-bytes.ensures ∙ c.in-Some-2.is))
