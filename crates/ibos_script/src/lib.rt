@@ -7,7 +7,7 @@ mod laws;
 mod lines;
 
 pub use fault::LineFault;
-pub use ibos_outcome::write_outcome;
+pub use ibos_outcome::{OutcomeFault, read_outcome, write_outcome};
 pub use laws::{lines_name_their_actor, spelled_acts_are_read};
 pub use lines::{Line, read_line};
 
