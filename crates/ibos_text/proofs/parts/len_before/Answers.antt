@@ -1,5 +1,4 @@
-use Rattle.std.proofs.Common.{◌≡◌, ◌≤◌, length, take, arith}
-use Rattle.ibos_text.specs.Parts.{len_before}
+use Rattle.std.proofs.Common.{arith}
 use Rattle.ibos_text.proofs.PartLengths.{found_behind, none_behind}
 use Rattle.ibos_text.proofs.parts.len_before.Goals as goal
 
