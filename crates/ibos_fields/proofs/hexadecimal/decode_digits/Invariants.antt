@@ -1,4 +1,4 @@
-use Rattle.std.proofs.Common.{◌≡◌, ◌+◌, ◌-◌, ◌*◌, ◌≤◌, ◌++◌, length, take, drop, option_map}
+use Rattle.std.proofs.Common.{◌≡◌, ◌-◌, ◌*◌, ◌≤◌, ◌++◌, length, take, drop, option_map}
 use Rattle.hex.specs.Hex.{decode_pairs}
 use Rattle.ibos_fields.specs.Fields.{bytes_named}
 use Rattle.ibos_fields.proofs.hexadecimal.decode_digits.Given as goal

@@ -1,5 +1,4 @@
 use Rattle.std.proofs.Common.{◌≡◌, true, false, refl, sym, ◌∙◌}
-use Rattle.std.specs.List.{list_all}
 use Rattle.ibos_fields.proofs.HexDigits.{block-codes, all_small}
 use Rattle.ibos_fields.proofs.lanes.decode_block.Goals.{then-not-are_digits-via-then-not-are_digits, then-not-are_digits-via-else-not-are_digits+then-not-are_digits-2}
 use Rattle.ibos_fields.proofs.lanes.decode_block.Goals as goal

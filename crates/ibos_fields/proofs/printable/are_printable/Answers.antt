@@ -1,4 +1,4 @@
-use Rattle.std.proofs.Common.{◌≡◌, ◌+◌, ◌-◌, ◌≤◌, length, sym, ◌∙◌, arith}
+use Rattle.std.proofs.Common.{◌-◌, length, sym, ◌∙◌, arith}
 use Rattle.ibos_fields.specs.Printable.{is_printable}
 use Rattle.ibos_fields.proofs.PrintableBlocks.{passed_more, fails_at, last_decides}
 use Rattle.ibos_fields.proofs.printable.are_printable.Goals as goal
