@@ -1,14 +1,14 @@
 -- A drill goes on act by act, and stays within its rounds.
-use Rattle.std.proofs.Common.{◌≡◌, ◌≢◌, ℕ, zero, suc, ◌+◌, ◌-◌, ◌^◌, ◌<◌, ◌≤◌, ◌==◌, Bool, true, false, List, [], ◌∷◌, ◌++◌, length, drop, Some, None, slice_get, slice_index, replicate, refl, ap, sym, subst, ◌∙◌, arith}
+use Rattle.std.proofs.Common.{◌≡◌, ◌≢◌, ℕ, zero, suc, ◌+◌, ◌-◌, ◌*◌, ◌^◌, ◌<◌, ◌≤◌, ◌==◌, Bool, true, false, List, [], ◌∷◌, ◌++◌, length, drop, Some, None, slice_get, slice_index, replicate, refl, ap, sym, subst, ◌∙◌, arith}
 use Rattle.std.proofs.Math.Seq.{drop-nil}
-use Rattle.std.proofs.lemmas.List.{drop-append-le, drop_all}
+use Rattle.std.proofs.lemmas.List.{drop-append-le, drop_all, length-append}
 use Rattle.std.proofs.lemmas.Option.{slice_get_within}
 use Rattle.std.proofs.lemmas.Bool.Decides.{nat_tests}
 use Rattle.ibos_kinds.specs.declared.act.Act.{Act}
 use Rattle.ibos_make.specs.declared.rounds.Counts.{Counts}
 use Rattle.ibos_make.specs.declared.rounds.Kind.{Kind}
 use Rattle.ibos_make.specs.declared.rounds.Kind.TheVariants.{Receive, Send, Cookies, Objects, Screen}
-use Rattle.ibos_make.specs.Drill.{ring_acts, post_acts, open_acts, opening_acts, first_counts, next_number, drawn, kind_of, tab_of, byte_of, acts_of, round_len, counts_after, with_next, round_acts, after_round, rounds_acts, Drilling, left, version_place}
+use Rattle.ibos_make.specs.Drill.{ring_acts, post_acts, open_acts, opening_acts, first_counts, next_number, drawn, kind_of, tab_of, byte_of, acts_of, round_len, counts_after, with_next, round_acts, after_round, rounds_acts, drill_acts, Drilling, left, version_place}
 use Rattle.ibos_make.specs.Drilling.{HasRoom, IsWithin, next_in}
 use Rattle.ibos_make.proofs.Places.{slice_get-front, slice_get-behind, drop-at, raised-below}
 
@@ -68,6 +68,15 @@ round-few c = omega (arith, length-round c, round_len-few (kind_of (drawn (next_
 
 round-some : (c : Counts) → 0 < length (round_acts c)
 round-some c = omega (arith, length-round c, round_len-some (kind_of (drawn (next_number c.number))))
+
+rounds-few : (rounds : ℕ) (c : Counts) → length (rounds_acts rounds c) ≤ 6 * rounds
+rounds-few zero c = omega arith
+rounds-few (suc rounds) c = omega (arith, length-append (round_acts c) (rounds_acts rounds (after_round c)), round-few c, rounds-few rounds (after_round c))
+
+-- a drill has at most six acts a round, and those before the rounds
+pub drill-few : (seed rounds : ℕ) → length (drill_acts seed rounds) ≤ 86 + 6 * rounds
+unfolding opening_acts
+drill-few seed rounds = omega (arith, length-append opening_acts (rounds_acts rounds (first_counts seed)), rounds-few rounds (first_counts seed))
 
 -- the act of a round that is about what the number says
 pub act-in : (c : Counts) (kind : Kind) (t e place : ℕ) (act : Act)

@@ -1,5 +1,6 @@
 // A drill: as many acts of all parties as are wanted, made from a number.
-ghost use Rattle.std.specs.Prelude.{◌≡◌, ◌↔◌, ◌∷◌, ◌<◌, [], None, IfOk, IfSome, OnErr};
+ghost use Rattle.std.specs.Prelude.{◌≡◌, ◌↔◌, ◌∷◌, ◌<◌, ◌≤◌, ◌+◌, ◌*◌, [], None, length, IfOk};
+ghost use Rattle.std.specs.Prelude.{IfSome, OnErr};
 ghost use Rattle.ibos_kinds.specs.Limits.{Fits};
 ghost use Rattle.ibos_make.specs.Drill.{drill_acts, drill_table, left};
 ghost use Rattle.ibos_make.specs.Drilling.{next_in};
@@ -63,9 +64,10 @@ impl Model for Drill {
 }
 
 impl Drill {
-    /// The drill of a seed, with so many rounds.
+    /// The drill of a seed, with so many rounds: the acts before them, and at most six in each.
     pub fn new(seed: u64, rounds: u32) -> Drill
-        ensures { left result ≡ drill_acts seed rounds }
+        ensures acts { left result ≡ drill_acts seed rounds }
+        ensures few { length (left result) ≤ 86 + 6 * rounds }
     {
         Drill {
             opening: 0,
