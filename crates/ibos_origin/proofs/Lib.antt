@@ -5,4 +5,5 @@ mod SoundTables
 mod TableLines
 mod UrlFronts
 mod OriginTexts
+mod UrlTexts
 mod Endpoints

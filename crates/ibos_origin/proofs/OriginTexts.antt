@@ -28,7 +28,7 @@ use Rattle.ibos_origin.proofs.UrlFronts.{IsSmall, IsWeb, Suits, by_web, reads_ur
 abbrev Plain : List Host → Type 0
 Plain hosts = list_all (λ host. list_all is_name_byte host.name) hosts ≡ true
 
-both : (p : ℕ → Bool) (xs ys : List ℕ) → list_all p xs ≡ true → list_all p ys ≡ true → list_all p (xs ++ ys) ≡ true
+pub both : (p : ℕ → Bool) (xs ys : List ℕ) → list_all p xs ≡ true → list_all p ys ≡ true → list_all p (xs ++ ys) ≡ true
 both p xs ys first second = list_all-append p xs ys ∙ rw (first, second) refl
 
 -- the bytes of names and of numbers are printable
@@ -78,7 +78,7 @@ host_pixels H url addr plain found = by_host (has_host url) url.host refl found
     by_host true None is h = cc
     by_host false host is h = cc
 
-origin_pixels : (H : HostTable) (url : Parts) (addr : ℕ) → HasPlainNames H → is_http url.scheme ≡ true → IsWeb url → address_at H (host_of url) ≡ Some addr → list_all is_pixel (origin_text url) ≡ true
+pub origin_pixels : (H : HostTable) (url : Parts) (addr : ℕ) → HasPlainNames H → is_http url.scheme ≡ true → IsWeb url → address_at H (host_of url) ≡ Some addr → list_all is_pixel (origin_text url) ≡ true
 origin_pixels H url addr plain web is found =
     ap (list_all is_pixel) (origin_spelled url url.port refl web is.port)
     ∙ both is_pixel url.scheme (codes "://" ++ (host_text (host_or_empty url) ++ port_text url.port)) (scheme_pixels url.scheme web)

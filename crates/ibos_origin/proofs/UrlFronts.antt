@@ -111,11 +111,11 @@ reads_slashes scheme bytes =
     then_reads Suits (parse_authority scheme (take len bytes)) _ (reads_authority scheme (take len bytes)).holds
     (λ head suits. record { holds = λ web. record { host = (suits web).host; port = (suits web).port; small = (suits web).small } })
 
-web_kind : (scheme : List ℕ) → is_http scheme ≡ true → scheme_type scheme ≡ SpecialNotFile
+pub web_kind : (scheme : List ℕ) → is_http scheme ≡ true → scheme_type scheme ≡ SpecialNotFile
 unfolding scheme_type default_port
 web_kind = by_web (λ scheme. scheme_type scheme ≡ SpecialNotFile) refl refl
 
-http_special : (scheme : List ℕ) → is_http scheme ≡ true → is_special (scheme_type scheme) ≡ true
+pub http_special : (scheme : List ℕ) → is_http scheme ≡ true → is_special (scheme_type scheme) ≡ true
 http_special scheme web = ap is_special (web_kind scheme web)
 
 clash : {T : Type 0} (b : Bool) → b ≡ true → b ≡ false → T
@@ -185,7 +185,7 @@ port_text None = []
 port_text (Some n) = codes ":" ++ decimal n
 
 -- what stands behind the port
-abbrev tail_of : Parts → List ℕ
+abbrev pub tail_of : Parts → List ℕ
 tail_of url = concat (drop 9 (pieces url))
 
 spelled : (url : Parts) (host : Option (Host (List ℕ))) (port : Option ℕ) → url.host ≡ host → url.port ≡ port → is_some host ≡ true → url.username ≡ [] → url.password ≡ []
@@ -253,7 +253,7 @@ origin_fronts text url parsed web none =
     let bare = no_credentials url none in
     fronted url url.host url.port refl refl (suits web).host bare.0 bare.1 ∙ sym (origin_spelled url url.port refl web (suits web).port)
 
-url_begins : (url : Parts) → is_http url.scheme ≡ true → has_credentials url ≡ false → IsWeb url → serialize url ≡ origin_text url ++ tail_of url
+pub url_begins : (url : Parts) → is_http url.scheme ≡ true → has_credentials url ≡ false → IsWeb url → serialize url ≡ origin_text url ++ tail_of url
 url_begins url web none is =
     let bare = no_credentials url none in
     spelled url url.host url.port refl refl is.host bare.0 bare.1

@@ -23,6 +23,14 @@ pub fn origins_are_printable()
         allowed H text ≡ Ok page → list_all is_pixel page.origin ≡ true }
 {}
 
+/// The text of an allowed URL is printable, so that no page can forge a line of what is printed:
+/// its origin is, and behind that all that is not printable ASCII is percent-encoded (URL Standard,
+/// section 1.3).
+pub fn urls_are_printable()
+    ensures { (H : HostTable) (text : List ℕ) (page : Page) → HasPlainNames H →
+        allowed H text ≡ Ok page → list_all is_pixel page.url ≡ true }
+{}
+
 /// Where a page is follows from its origin's text: the table's address of the origin's host, and
 /// the port that is written there, or else its scheme's, 80 or 443. So all pages of one origin are
 /// at one endpoint.
