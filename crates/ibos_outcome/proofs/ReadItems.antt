@@ -1,8 +1,7 @@
 -- What an item prints is read as that item.
-use Rattle.std.proofs.Common.{◌≡◌, ℕ, ◌<◌, List, [], ◌∷◌, ◌++◌, true, length, Some, None, Option, refl, ◌∙◌, ap, subst, sym, append_assoc, arith}
+use Rattle.std.proofs.Common.{◌≡◌, ℕ, ◌<◌, List, [], ◌∷◌, ◌++◌, true, length, Some, None, Option, refl, ◌∙◌, subst, sym, append_assoc, arith}
 use Rattle.std.specs.Prelude.{◌^◌, codes, decimal}
 use Rattle.std.specs.List.{list_all}
-use Rattle.std.proofs.lemmas.List.{append-nil}
 use Rattle.std.proofs.lemmas.List.Folds.{list_all-append}
 use Rattle.hex.specs.Hex.{IsBytes, encode_lower}
 use Rattle.ibos_kinds.specs.declared.names.Instance.{Instance}
@@ -16,8 +15,8 @@ use Rattle.ibos_fields.specs.Fields.{instance_in, hex_in}
 use Rattle.ibos_fields.specs.Printable.{is_printable, is_graph, IsWord}
 use Rattle.ibos_fields.proofs.Words.{word_printable, spaced_printable}
 use Rattle.ibos_outcome.specs.Printed.{instance_text, or_dash, hex_text, value_text, addr_text, item_text}
-use Rattle.ibos_outcome.specs.Canonical.{IsPrintable, IsCells, IsCanonicalItem}
-use Rattle.ibos_outcome.specs.Readings.{word_of, rest_of, after_first, read_field, field, last, nothing, printable_in, word_in, cookies_in, cells_in, byte_in, value_in, addr_in, rule_in, small_in, port_in, count_in, flow_in, flow_item, lent_item, told_in, dev_in, wire_in, log_in, user_in, store_in, other_in, item_to, item_in}
+use Rattle.ibos_outcome.specs.Canonical.{IsPrintable, IsCanonicalItem}
+use Rattle.ibos_outcome.specs.Readings.{after_first, field, last, nothing, printable_in, word_in, cookies_in, cells_in, byte_in, value_in, addr_in, rule_in, small_in, port_in, count_in, flow_in, flow_item, lent_item, told_in, dev_in, wire_in, log_in, user_in, store_in, other_in, item_in}
 use Rattle.ibos_outcome.proofs.FieldWords.{number_word, number_read, instance_word, instance_read, hex_word, hex_read}
 use Rattle.ibos_outcome.proofs.ReadWords.{word_of-front, rest_of-front, word_of-stop, rest_of-stop, word_lacks, printable_read, word_read, cookies_printable, cookies_read, cells_read, byte_word, byte_read, value_word, value_read, addr_word, addr_read}
 use Rattle.ibos_outcome.proofs.RuleTexts.{code_word, name_word, rule_read}

@@ -3,7 +3,6 @@
 use Rattle.std.proofs.Common.{◌≡◌, ℕ, zero, suc, ◌+◌, ◌<◌, ◌≤◌, List, [], ◌∷◌, ◌++◌, true, length, take, drop, Some, None, refl, sym, ◌∙◌, ap, subst, append_assoc, arith, All, add-one}
 use Rattle.std.specs.Prelude.{◌^◌, codes, decimal}
 use Rattle.std.specs.List.{list_all}
-use Rattle.std.specs.List.{flat_map}
 use Rattle.std.proofs.Math.Seq.{take-append_seam, take-add, take-length}
 use Rattle.std.proofs.lemmas.Fmt.{decimal_injective}
 use Rattle.std.proofs.lemmas.List.{length-append, take-append-drop, append-nil, take_all, length-take-le}
@@ -21,7 +20,7 @@ use Rattle.ibos_fields.proofs.Words.{word_printable, spaced_printable}
 use Rattle.std.proofs.lemmas.List.Folds.{list_all-append}
 use Rattle.ibos_outcome.specs.Printed.{line_text, head_text, item_text, items_text, outcome_text}
 use Rattle.ibos_outcome.specs.Canonical.{IsPrintable, IsCanonicalItem, IsCanonical, IsFront}
-use Rattle.ibos_outcome.specs.Readings.{word_of, rest_of, rule_in, head_in, item_in, said_of, HasItems}
+use Rattle.ibos_outcome.specs.Readings.{word_of, rest_of, head_in, item_in, said_of, HasItems}
 use Rattle.ibos_outcome.proofs.FieldWords.{number_digits}
 use Rattle.ibos_outcome.proofs.ReadWords.{Lacks, word_of-stop, rest_of-stop, cut_same, word_lacks, printable_lacks, digits_lack, digits_printable}
 use Rattle.ibos_outcome.proofs.RuleTexts.{code_word, name_word, rule_read}

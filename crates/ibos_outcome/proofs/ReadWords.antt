@@ -1,21 +1,21 @@
 -- Words of a line that is cut, and the fields that are read of them as they were printed.
-use Rattle.std.proofs.Common.{◌≡◌, ℕ, zero, suc, ◌+◌, ◌<◌, ◌≤◌, List, [], ◌∷◌, ◌++◌, Bool, true, false, not, length, take, drop, Option, Some, None, Result, Ok, Err, refl, sym, ◌∙◌, ap, subst, append_assoc, arith}
+use Rattle.std.proofs.Common.{◌≡◌, ℕ, zero, suc, ◌+◌, ◌<◌, List, [], ◌∷◌, ◌++◌, Bool, true, false, not, length, take, drop, Option, Some, None, Result, Ok, Err, refl, sym, ◌∙◌, ap, subst, append_assoc, arith}
 use Rattle.std.specs.Prelude.{◌^◌, ◌==◌, ◌&&◌, nat_le, nat_lt, bytes_eq, slice_index, codes, decimal, if◌then◌else◌}
-use Rattle.std.specs.Int.{byte_at, bytes_high_first, to_be_bytes, w32}
+use Rattle.std.specs.Int.{byte_at, bytes_high_first}
 use Rattle.std.specs.List.{list_all}
 use Rattle.std.proofs.Math.Seq.{take-append_seam, drop-append_seam}
 use Rattle.std.proofs.lemmas.Bool.Decides.{nat_tests}
 use Rattle.std.proofs.lemmas.Nat.{from_be_bytes-to_be_bytes_4}
 use Rattle.std.proofs.lemmas.Slice.Eq.{bytes_eq-Decides}
 use Rattle.std.proofs.lemmas.List.Folds.{list_all-append}
-use Rattle.hex.specs.Hex.{IsBytes, encode_lower, encode_with}
+use Rattle.hex.specs.Hex.{IsBytes, encode_lower}
 use Rattle.hex.specs.Hex.{decode_of}
 use Rattle.hex.specs.declared.error.FromHexError.{FromHexError}
 use Rattle.hex.proofs.HexLemmas.{decode_sized-encode_lower, decode_of-ok}
 use Rattle.ibos_text.specs.Parts.{len_before}
 use Rattle.ibos_fields.specs.Fields.{is_digit, number_in, hex_in, bytes_named}
 use Rattle.ibos_fields.specs.Printable.{is_printable, is_graph, IsWord}
-use Rattle.ibos_fields.proofs.Words.{all_weaker, len_before-front, word_printable}
+use Rattle.ibos_fields.proofs.Words.{all_weaker, len_before-front}
 use Rattle.ibos_outcome.specs.Printed.{or_dash, value_text, addr_text}
 use Rattle.ibos_outcome.specs.Canonical.{IsPrintable, IsCells, AreCookies, ends_in_space}
 use Rattle.ibos_outcome.specs.Readings.{word_of, rest_of, after_first, printable_in, word_in, cookies_in, cells_in, byte_in, value_in, octets_in, addr_in}

@@ -1,7 +1,7 @@
 -- Which outcomes are canonical: each field of an item has the range of its meaning, and where there
 -- is none any value of its type.
 use Rattle.std.specs.Prelude.{◌≡◌, ◌≢◌, ◌≤◌, ◌<◌, ◌^◌, ◌-◌, ◌==◌, ℕ, List, Bool, true, false}
-use Rattle.std.specs.Prelude.{length, slice_index, take, codes, All, Result, Ok as Done, Err}
+use Rattle.std.specs.Prelude.{length, slice_index, take, codes, All, Result, Err}
 use Rattle.std.specs.List.{list_all}
 use Rattle.hex.specs.Hex.{IsBytes}
 use Rattle.ibos_kinds.specs.declared.outcome.Item.{Item}
@@ -16,7 +16,7 @@ use Rattle.ibos_kinds.specs.declared.outcome.Outcome.{Outcome}
 use Rattle.ibos_kinds.specs.Limits.{IsNamed}
 use Rattle.ibos_fields.specs.Printable.{is_printable, IsWord}
 use Rattle.ibos_outcome.specs.declared.fault.OutcomeFault.{OutcomeFault}
-use Rattle.ibos_outcome.specs.declared.fault.OutcomeFault.TheVariants.{NotCanonical, Memory}
+use Rattle.ibos_outcome.specs.declared.fault.OutcomeFault.TheVariants.{NotCanonical}
 
 -- bytes 0x20 to 0x7E
 abbrev pub IsPrintable : List ℕ → Type 0

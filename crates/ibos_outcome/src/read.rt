@@ -25,7 +25,7 @@ use std::alloc::Global;
 /// outcome: its number, the outcome, and how many bytes that front has.
 pub fn read_outcome(alloc: Global, text: &[u8]) -> Result<(u64, Outcome, usize), OutcomeFault>
     ensures within { IfOk result (λ read. read.2 ≤ length text.now) }
-    ensures canonical { IfOk result (λ read. IsCanonical read.1) }
+    ensures canonical { IfOk result (λ read. (read.0 < 2 ^ 64) × IsCanonical read.1) }
     ensures told { IfOk result (λ read. outcome_text read.0 read.1 ≡ take read.2 text.now) }
     ensures longest { IfOk result (λ read. (n : ℕ) (outcome : OutcomeSpec) → n < 2 ^ 64 →
         IsCanonical outcome → IsFront (outcome_text n outcome) text.now →

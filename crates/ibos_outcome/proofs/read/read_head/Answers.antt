@@ -1,4 +1,4 @@
-use Rattle.std.proofs.Common.{◌≡◌, ◌∙◌, ◌++◌, sym, ap, subst, Some, None, length, decimal}
+use Rattle.std.proofs.Common.{◌≡◌, ◌∙◌, ◌++◌, sym, ap, subst, Some, None, decimal}
 use Rattle.ibos_outcome.specs.Printed.{line_text, head_text}
 use Rattle.ibos_outcome.specs.Canonical.{IsFront}
 use Rattle.ibos_outcome.specs.Readings.{word_of, rest_of, head_in}

@@ -1,7 +1,6 @@
-use Rattle.std.proofs.Common.{◌≡◌, ◌∙◌, ◌++◌, ◌+◌, ◌≤◌, ◌<◌, sym, ap, subst, Some, length, drop, arith}
-use Rattle.ibos_kinds.specs.declared.outcome.Item.{Item}
-use Rattle.ibos_outcome.specs.Printed.{line_text, item_text, items_text}
-use Rattle.ibos_outcome.specs.Canonical.{IsFront, IsCanonicalItem}
+use Rattle.std.proofs.Common.{◌∙◌, ap, subst, length, arith}
+use Rattle.ibos_outcome.specs.Printed.{item_text}
+use Rattle.ibos_outcome.specs.Canonical.{IsFront}
 use Rattle.ibos_outcome.proofs.ReadLines.{front_fits, told_more, all_more, line_some}
 use Rattle.ibos_outcome.proofs.read.read_items.Goals as goal
 

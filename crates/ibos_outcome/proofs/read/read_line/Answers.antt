@@ -1,4 +1,4 @@
-use Rattle.std.proofs.Common.{◌≡◌, ◌∙◌, ◌++◌, sym, ap, subst, Some, None, length}
+use Rattle.std.proofs.Common.{◌≡◌, ◌∙◌, ◌++◌, sym, ap, subst, Some, None}
 use Rattle.ibos_outcome.specs.Printed.{line_text, item_text}
 use Rattle.ibos_outcome.specs.Canonical.{IsFront}
 use Rattle.ibos_outcome.specs.Readings.{item_in}

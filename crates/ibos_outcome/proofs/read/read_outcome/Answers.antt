@@ -24,6 +24,9 @@ found c =
     is_read c.args.text.now c.read_head.new.line c.as_bytes-digits.result.now c.split_at.result.1.now c.in-Some.number c.in-Some.head c.read_items.new.outcome c.len-start.result c.in_ok-len.len
     small some.0 some.1 c.in_ok-len.ensures.head (c.as_bytes-digits.ensures.value ∙ c.format.ensures.text) c.split_at.ensures.back c.len-start.ensures c.in_ok-len.ensures.items
 
+pub returns-clause-canonical : goal.returns-clause-canonical
+returns-clause-canonical c = ((found c).small, (found c).has.canonical)
+
 pub returns-clause-told : goal.returns-clause-told
 returns-clause-told c = read_told _ _ _ _ _ (found c)
 
