@@ -1,12 +1,12 @@
 // An outcome, read from its text.
-ghost use Rattle.std.specs.Prelude.{◌≡◌, ◌≤◌, ◌<◌, ◌^◌, ◌++◌, ◌+◌, [], true, length, take, drop};
+ghost use Rattle.std.specs.Prelude.{◌≡◌, ◌≤◌, ◌<◌, ◌^◌, [], true, length, take};
 ghost use Rattle.std.specs.Prelude.{ℕ, decimal, IfOk, OnOk, IfSome, IfNone};
 ghost use Rattle.std.specs.List.{list_all};
 ghost use Rattle.ibos_kinds.specs.declared.outcome.Head.{Head as HeadSpec};
 ghost use Rattle.ibos_kinds.specs.declared.outcome.Item.{Item as ItemSpec};
 ghost use Rattle.ibos_kinds.specs.declared.outcome.Outcome.{Outcome as OutcomeSpec};
 ghost use Rattle.ibos_fields.specs.Fields.{is_digit};
-ghost use Rattle.ibos_outcome.specs.Printed.{outcome_text, items_text, line_text};
+ghost use Rattle.ibos_outcome.specs.Printed.{outcome_text, line_text};
 ghost use Rattle.ibos_outcome.specs.Printed.{head_text, item_text};
 ghost use Rattle.ibos_outcome.specs.Canonical.{IsCanonical, IsCanonicalItem, IsFront};
 ghost use Rattle.ibos_outcome.specs.Canonical.{OnNotCanonical};
@@ -17,7 +17,6 @@ use crate::printed::{write_head, write_item};
 use crate::read_items::read_item;
 use crate::words::{begins_with, cut, read_decimal, read_rule};
 use ibos_kinds::{Bytes, Head, Item, Memory, Outcome};
-use ibos_text::len_before;
 use itoa::Buffer;
 use std::alloc::Global;
 
