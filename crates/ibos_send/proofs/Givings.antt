@@ -72,9 +72,13 @@ one-name : (same old : Bool) → cond same false old ≡ cond (same || false) fa
 one-name true old = refl
 one-name false old = refl
 
+-- one is given
+pub given-one : (now next : Names) (h : Held) → IsClaimed now next h.name false → AreReturned (h ∷ []) now next
+given-one now next h claimed = record { names = λ name. claimed.taken_names name ∙ one-name (same_name name h.name) (is_taken now name); places = claimed.places; areas = claimed.areas }
+
 -- the last is given
 pub giving-step : KeepsGiven → (all left rest : List Held) (h : Held) (first now next : Names) → left ≡ rest ++ h ∷ [] → IsGiving all left first now → IsClaimed now next h.name false → IsGiving all rest first next
 giving-step keeps all left rest h first now next is giving claimed = giving-many all left rest (h ∷ []) first now next is giving
-    (record { names = λ name. claimed.taken_names name ∙ one-name (same_name name h.name) (is_taken now name); places = claimed.places; areas = claimed.areas })
+    (given-one now next h claimed)
     (λ mem more hands. hands-given now next mem more h claimed hands)
     (λ m mem regs out hands mediates. keeps m mem regs now next out h hands.0 hands.1 claimed mediates)

@@ -1,3 +1,4 @@
+mod BackSteps
 mod Fillings
 mod FreshAreas
 mod Gathered

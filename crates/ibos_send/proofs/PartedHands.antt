@@ -40,7 +40,7 @@ in_either {A} xs ys p is one other = by_test (has_place xs p) refl
     by_test true in_x = one in_x
     by_test false out = other (sym (ap (λ b. b || has_place ys p) out) ∙ sym (has-append xs ys p) ∙ is)
 
-both_false : (a b : Bool) → a ≡ false → b ≡ false → (a || b) ≡ false
+pub both_false : (a b : Bool) → a ≡ false → b ≡ false → (a || b) ≡ false
 both_false a b is is' = rw (is, is') refl
 
 -- an item of a list is in it

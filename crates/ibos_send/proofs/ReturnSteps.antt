@@ -14,7 +14,8 @@ use Rattle.ibos_mediate.specs.Frames.{after_bell, arrivals, received_frames, ret
 use Rattle.ibos_mediate.specs.Keeps.{Keeps, SameNames, SameRegisters}
 use Rattle.ibos_mediate.specs.Mediated.{Mediated, RingView, ring_of}
 use Rattle.ibos_mediate.specs.Relation.{AreOwned, AreUnheldBut, IsAtDevice, IsInMemory, completed}
-use Rattle.ibos_send.proofs.Words.{AreAtHand, Held, Instance, IsInRing, IsKept, IsMarked, IsSendOf, IsServed, Memory, Name, Names, Outgoing, Place, Post, Receive, Ring, Transmit, address_of, after_returns, buffer_bytes, came_back, descriptor_bytes, held_in, is_open, items_for, numbers_of, place_of, posted_in, returned_of, room_slots, slot_address, slot_at}
+use Rattle.ibos_send.proofs.BackSteps.{IsBack, back-are, none-back, one-back, stays}
+use Rattle.ibos_send.proofs.Words.{AreAllAway, AreAtHand, AreReturned, Held, Instance, IsInRing, IsKept, IsMarked, IsSendOf, IsServed, Memory, Name, Names, Outgoing, Place, Post, Receive, Ring, Transmit, address_of, after_returns, all_left, back_since, buffer_bytes, came_back, descriptor_bytes, has_name, has_place, held_in, held_of, is_lent_at, is_open, is_taken, items_for, left_then, numbers_of, posted_in, returned_of, room_slots, slot_address, slot_at}
 
 -- what a bell works on
 pub record State : Type 0 where
@@ -45,6 +46,7 @@ pub record IsServing (first now : State) : Type 0 where
   pub unheld : (more : List Held) → AreUnheldBut more first.med first.pool first.mem → AreUnheldBut more now.med now.pool now.mem
   pub hands : (more : List Held) → AreAtHand first.pool first.mem (held_in first.sends ++ more) → AreAtHand now.pool now.mem (held_in now.sends ++ more)
   pub served : IsServed first.pool now.pool first.mem now.mem
+  pub back : (hs : List Held) × IsBack hs (returns first.mem first.med.transmit) (returns now.mem now.med.transmit) first.sends now.sends first.pool now.pool first.mem now.mem
 
 pub serving-begins : (s : State) → IsInMemory s.med s.mem → ((ring : Ring) → AreOwned ring (ring_of s.med ring) s.pool) → AreAtHand s.pool s.mem (held_in s.sends) → IsInRing s.sends s.med → IsServing s s
 serving-begins s memory owned at_hand ring = record {
@@ -67,8 +69,29 @@ serving-begins s memory owned at_hand ring = record {
   device = λ regs is. is;
   unheld = λ more are. are;
   hands = λ more hands. hands;
-  served = record { places = λ name. refl; pool_areas = refl; buffers = λ p place. refl; kept = λ p kept. kept; areas = refl };
+  served = record { places = λ name. refl; pool_areas = refl; bytes = λ from n. refl; buffers = λ p place. refl; kept = λ p kept. kept; areas = refl };
+  back = ([], none-back (returns s.mem s.med.transmit) s.sends s.pool s.mem);
 }
+
+-- what came back, and what it changed
+module _ (first now : State) (serving : IsServing first now) where
+  abbrev since : List Held
+  since = back_since first.sends now.sends (returns first.mem first.med.transmit)
+
+  these : serving.back.0 ≡ since
+  these = back-are serving.back.0 (returns first.mem first.med.transmit) (returns now.mem now.med.transmit) first.sends now.sends first.pool now.pool first.mem now.mem serving.back.1
+
+  pub sends-back : now.sends ≡ after_returns first.sends since
+  sends-back = serving.back.1.sends ∙ ap (λ hs. after_returns first.sends hs) these
+
+  pub names-given : AreReturned (all_left first.sends since) first.pool now.pool
+  names-given = subst (λ hs. AreReturned (all_left first.sends hs) first.pool now.pool) these serving.back.1.given
+
+  pub lent-back : (p : Place) → is_lent_at now.mem p ≡ (if has_place since p then false else is_lent_at first.mem p)
+  lent-back p = serving.back.1.lent p ∙ ap (λ hs. if has_place hs p then false else is_lent_at first.mem p) these
+
+  pub names-stay : AreAllAway first.sends → (name : Name) → has_name (returns first.mem first.med.transmit) name ≡ false → is_taken now.pool name ≡ is_taken first.pool name
+  names-stay away name apart = stays name serving.back.0 (returns first.mem first.med.transmit) (returns now.mem now.med.transmit) first.sends now.sends first.pool now.pool first.mem now.mem serving.back.1 away apart
 
 -- A buffer is taken back, and its sender has it again or the pool.
 pub record IsStep (h : Held) (now next : State) : Type 0 where
@@ -80,8 +103,7 @@ pub record IsStep (h : Held) (now next : State) : Type 0 where
   pub keeps : Keeps [] now.med next.med now.mem next.mem SameRegisters SameNames
   pub state : next.sends ≡ came_back (slice_get now.sends.posts now.sends.returned) h now.sends
   pub opened : (q : Instance) → is_open next.sends q ≡ is_open now.sends q
-  pub places : (name : Name) → place_of next.pool name ≡ place_of now.pool name
-  pub areas : length next.pool ≡ length now.pool
+  pub pooled : AreReturned (held_of (left_then (slice_get now.sends.posts now.sends.returned) h now.sends)) now.pool next.pool
   pub given : (mem : Memory) (more : List Held) → AreAtHand now.pool mem (h ∷ held_in now.sends ++ more) → AreAtHand next.pool mem (held_in next.sends ++ more)
   pub given_owned : (m : Mediated) (mem : Memory) (ring : Ring) → IsInMemory m mem → AreAtHand now.pool mem (h ∷ held_in now.sends) → AreOwned ring (ring_of m ring) now.pool → AreOwned ring (ring_of m ring) next.pool
   pub given_unheld : (m : Mediated) (mem : Memory) (more : List Held) → AreAtHand now.pool mem (h ∷ held_in now.sends) → AreUnheldBut more m now.pool mem → AreUnheldBut more m next.pool mem
@@ -173,12 +195,20 @@ module _ (laws : Laws) (h : Held) (first now next : State) (serving : IsServing 
     unheld = λ more are. step.given_unheld next.med next.mem more at_hand (step.keeps.unheld now.pool now.pool refl more (serving.unheld more are));
     hands = λ more hands. step.given next.mem more (step.hands (held_in now.sends ++ more) (serving.hands more hands));
     served = record {
-      places = λ name. step.places name ∙ serving.served.places name;
-      pool_areas = step.areas ∙ serving.served.pool_areas;
+      places = λ name. step.pooled.places name ∙ serving.served.places name;
+      pool_areas = step.pooled.areas ∙ serving.served.pool_areas;
+      bytes = λ from n. step.marked.bytes from n ∙ serving.served.bytes from n;
       buffers = λ p place. step.marked.bytes (address_of p) buffer_bytes ∙ serving.served.buffers p place;
       kept = λ p kept. kept-next p (serving.served.kept p kept);
       areas = step.marked.areas ∙ serving.served.areas;
     };
+    back =
+        let before = serving.back.1 in
+        let before' = rw step.returned at before in (
+          serving.back.0 ++ h ∷ [],
+          one-back h serving.back.0 (returns first.mem first.med.transmit) (returns next.mem next.med.transmit) first.sends now.sends next.sends first.pool now.pool next.pool first.mem now.mem next.mem
+              before' step.state (ap (λ (s : Outgoing). s.returned) back) step.pooled step.marked,
+        );
   }
 
   -- fewer are left

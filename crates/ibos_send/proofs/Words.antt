@@ -15,6 +15,6 @@ pub use Rattle.ibos_send.specs.declared.sending.Post.{Post}
 pub use Rattle.ibos_send.specs.declared.sending.Waiting.{Waiting}
 pub use Rattle.ibos_send.specs.Buffers.{AreFreshIn, AreHeld, AreReturned, Homes, IsFresh, Table, buffer_in, bytes_of, gathered, has_home_place, held_at_home, held_of, home_at, home_in, home_place, homes_of, is_transmit_name, name_in, new_homes, size_of}
 pub use Rattle.ibos_send.specs.Lists.{IsPost, IsSendList, IsWaiting, SendList, held_waiting, numbers_of, post_of, untold_in, with_post}
-pub use Rattle.ibos_send.specs.Returns.{AreFilled, IsSendOf, IsServed, after_returns, brought_by, brought_home, came_back, items_for, left_at, left_over, return_items, returned_of}
+pub use Rattle.ibos_send.specs.Returns.{AreAllAway, AreFilled, IsSendOf, IsServed, after_returns, all_left, back_since, brought_by, brought_home, came_back, items_for, left_at, left_over, left_then, return_items, returned_of}
 pub use Rattle.ibos_send.specs.Sends.{IsInRing, Outgoing, held_in, home_by, homes_by, is_open, posted_in}
 unfoldable pub use Rattle.ibos_send.specs.Buffers.{homes_in}

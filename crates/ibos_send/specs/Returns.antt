@@ -1,6 +1,8 @@
 -- What a transmit bell does: buffers that were sent come back, in the order of their posts.
-use Rattle.std.specs.Prelude.{◌≡◌, ℕ, ◌+◌, ◌<◌, List, [], ◌∷◌, Bool, false, not, length}
-use Rattle.std.specs.Prelude.{slice_get, slice_index_or, slice_set, Option, Some, None, if◌then◌else◌}
+use Rattle.std.specs.Prelude.{◌≡◌, ℕ, ◌+◌, ◌-◌, ◌<◌, List, [], ◌∷◌, ◌++◌, Bool, false, not}
+use Rattle.std.specs.Prelude.{length, take, slice_get, slice_index_or, slice_set}
+use Rattle.std.specs.Prelude.{Option, Some, None, if◌then◌else◌}
+use Rattle.std.specs.List.{All}
 use Rattle.ibos_kinds.specs.declared.names.Instance.{Instance}
 use Rattle.ibos_kinds.specs.declared.outcome.Item.{Item}
 use Rattle.ibos_kinds.specs.declared.outcome.Item.TheVariants.{Home, Returned}
@@ -9,13 +11,13 @@ use Rattle.ibos_pool.specs.declared.name.Name.{Name}
 use Rattle.ibos_pool.specs.declared.name.Ring.{Ring}
 use Rattle.ibos_pool.specs.declared.place.Place.{Place}
 use Rattle.ibos_pool.specs.Hands.{has_place}
-use Rattle.ibos_pool.specs.Memory.{IsKept, Memory, buffer_at, is_lent_at, slot_at}
+use Rattle.ibos_pool.specs.Memory.{IsKept, Memory, buffer_at, bytes_at, is_lent_at, slot_at}
 use Rattle.ibos_pool.specs.Names.{Held, Names, place_of}
 use Rattle.ibos_pool.specs.Places.{IsPlaceIn}
 use Rattle.ibos_pool.specs.Sizes.{room_slots}
 use Rattle.ibos_send.specs.declared.sending.Post.{Post}
-use Rattle.ibos_send.specs.Buffers.{Homes, Table, home_place, homes_in}
-use Rattle.ibos_send.specs.Sends.{Outgoing, is_open}
+use Rattle.ibos_send.specs.Buffers.{Homes, Table, held_of, home_place, homes_in}
+use Rattle.ibos_send.specs.Sends.{Outgoing, home_by, is_open, posted_in}
 
 -- a buffer is at home with its instance, if that did not end
 abbrev pub brought_by : Instance → ℕ → Held → Table → Option Homes → Table
@@ -43,10 +45,29 @@ came_back (Some post) h s = record s {
   returned = s.returned + 1;
 }
 
+-- what is left over then
+abbrev pub left_then : Option Post → Held → Outgoing → Option Held
+left_then None h s = Some h
+left_then (Some post) h s = left_over post.who post.buffer h s.homes
+
 -- all these buffers come back, one after the other
 abbrev pub after_returns : Outgoing → List Held → Outgoing
 after_returns s [] = s
 after_returns s (h ∷ hs) = after_returns (came_back (slice_get s.posts s.returned) h s) hs
+
+-- what is left over of all these, for the pool
+abbrev pub all_left : Outgoing → List Held → List Held
+all_left s [] = []
+all_left s (h ∷ hs) = held_of (left_then (slice_get s.posts s.returned) h s)
+    ++ all_left (came_back (slice_get s.posts s.returned) h s) hs
+
+-- of the buffers that come back, the oldest first, those that did from old to new
+abbrev pub back_since : Outgoing → Outgoing → List Held → List Held
+back_since old new hs = take (new.returned - old.returned) hs
+
+-- No buffer of a posted send is at home. So it is where no instance is added a second time.
+abbrev pub AreAllAway : Outgoing → Type 0
+AreAllAway s = All (λ (post : Post). home_by s post.who post.buffer ≡ None) (posted_in s)
 
 -- the items of one return
 abbrev pub return_items : Bool → Post → List Item
@@ -77,10 +98,11 @@ pub record AreFilled (held : List Held) (old new : Memory) : Type 0 where
   pub lent : (p : Place) → is_lent_at new p ≡ is_lent_at old p
   pub areas : length new ≡ length old
 
--- A bell leaves all places of names, and the bytes of all buffers.
+-- A bell leaves all places of names, and all bytes.
 pub record IsServed (pool pool' : Names) (mem mem' : Memory) : Type 0 where
   pub places : (name : Name) → place_of pool' name ≡ place_of pool name
   pub pool_areas : length pool' ≡ length pool
+  pub bytes : (from n : ℕ) → bytes_at mem' from n ≡ bytes_at mem from n
   pub buffers : (p : Place) → IsPlaceIn (length mem) p → buffer_at mem' p ≡ buffer_at mem p
   pub kept : (p : Place) → IsKept mem p → IsKept mem' p
   pub areas : length mem' ≡ length mem

@@ -11,8 +11,8 @@ ghost use Rattle.ibos_pool.specs.declared.name.Name.{Name};
 ghost use Rattle.ibos_pool.specs.declared.name.Ring.{Ring};
 ghost use Rattle.ibos_pool.specs.declared.name.Ring.TheVariants.{Transmit};
 ghost use Rattle.ibos_pool.specs.declared.place.Place.{Place};
-ghost use Rattle.ibos_pool.specs.Hands.{AreAtHand};
-ghost use Rattle.ibos_pool.specs.Memory.{IsKept, Memory as Areas, buffer_at};
+ghost use Rattle.ibos_pool.specs.Hands.{AreAtHand, has_name, has_place};
+ghost use Rattle.ibos_pool.specs.Memory.{IsKept, Memory as Areas, buffer_at, is_lent_at};
 ghost use Rattle.ibos_pool.specs.Names.{Held, IsOneToOne, Names, is_taken, place_of};
 ghost use Rattle.ibos_pool.specs.Places.{IsPlaceIn};
 ghost use Rattle.ibos_pool.specs.Sizes.{buffer_bytes};
@@ -28,8 +28,9 @@ ghost use Rattle.ibos_mediate.specs.Relation.{MediatesBut, completed};
 ghost use Rattle.ibos_flow.specs.Flows.{bound_by};
 ghost use Rattle.ibos_send.specs.Buffers.{AreFreshIn, AreHeld, AreReturned, IsFresh, bytes_of};
 ghost use Rattle.ibos_send.specs.Buffers.{held_of, homes_of, is_transmit_name, new_homes, size_of};
-ghost use Rattle.ibos_send.specs.Returns.{AreFilled, IsSendOf, IsServed, after_returns};
-ghost use Rattle.ibos_send.specs.Returns.{came_back, return_items, returned_of};
+ghost use Rattle.ibos_send.specs.Returns.{AreAllAway, AreFilled, IsSendOf, IsServed, after_returns};
+ghost use Rattle.ibos_send.specs.Returns.{all_left, back_since, came_back, left_then};
+ghost use Rattle.ibos_send.specs.Returns.{return_items, returned_of};
 ghost use Rattle.ibos_send.specs.Sends.{AreSameSends, IsInRing, OnDenied, Submits, answer_of};
 ghost use Rattle.ibos_send.specs.Sends.{count_of, frame_in, held_in, home_by, homes_by, is_away};
 ghost use Rattle.ibos_send.specs.Sends.{is_open, is_waiting, numbers_of, posted_in, untold_of};
@@ -355,7 +356,8 @@ impl Sends {
     /// sender's again. Where the sender has ended the buffer goes to the pool, and no one is told.
     ///
     /// After want of memory some descriptors were taken back and others not, and `out` has some of
-    /// the items.
+    /// the items. Each buffer that was taken back is its sender's again or the pool's then too, and
+    /// all other names are taken or free as before.
     pub fn serve(
         &mut self,
         med: &mut Mediator,
@@ -376,6 +378,15 @@ impl Sends {
             ≡ after_returns self.old (returns mem.old med.old.transmit)) }
         ensures bell { OnOk result (med.new ≡ after_bell Transmit mem.old med.old) }
         ensures returns { OnOk result (returns mem.new med.new.transmit ≡ []) }
+        ensures back { self.new ≡ after_returns self.old (back_since self.old self.new
+            (returns mem.old med.old.transmit)) }
+        ensures given { AreReturned (all_left self.old (back_since self.old self.new
+            (returns mem.old med.old.transmit))) pool.old pool.new }
+        ensures names { AreAllAway self.old → (name : Name)
+            → has_name (returns mem.old med.old.transmit) name ≡ false
+            → is_taken pool.new name ≡ is_taken pool.old name }
+        ensures lent { (p : Place) → is_lent_at mem.new p ≡ (if has_place (back_since self.old
+            self.new (returns mem.old med.old.transmit)) p then false else is_lent_at mem.old p) }
         ensures open { (q : Instance) → is_open self.new q ≡ is_open self.old q }
         ensures waiting { self.new.waiting ≡ self.old.waiting }
         ensures posts { self.new.posts ≡ self.old.posts }
@@ -421,8 +432,8 @@ impl Sends {
         ensures head { out.new.head ≡ out.old.head }
         ensures items { OnOk result (out.new.items ≡ out.old.items ++ returned_of self.old) }
         ensures open { (q : Instance) → is_open self.new q ≡ is_open self.old q }
-        ensures places { (name : Name) → place_of pool.new name ≡ place_of pool.old name }
-        ensures areas { length pool.new ≡ length pool.old }
+        ensures given { AreReturned (held_of (left_then (slice_get self.old.posts
+            self.old.returned) loan self.old)) pool.old pool.new }
         ensures hands { (mem : Areas) (more : List Held)
             → AreAtHand pool.old mem (loan ∷ held_in self.old ++ more)
             → AreAtHand pool.new mem (held_in self.new ++ more) }
@@ -460,8 +471,7 @@ impl Sends {
 // Gives a buffer to the pool, if there is one.
 fn give_left(left: Option<Loan>, pool: &mut Pool)
     requires { AreHeld pool.old (held_of left) }
-    ensures places { (name : Name) → place_of pool.new name ≡ place_of pool.old name }
-    ensures areas { length pool.new ≡ length pool.old }
+    ensures returned { AreReturned (held_of left) pool.old pool.new }
     ensures hands { (mem : Areas) (more : List Held) → AreAtHand pool.old mem (held_of left ++ more)
         → AreAtHand pool.new mem more }
     ensures owned { (m : Mediated) (mem : Areas) (ring : Ring) → IsInMemory m mem

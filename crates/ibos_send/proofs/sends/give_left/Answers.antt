@@ -1,5 +1,9 @@
 use Rattle.ibos_pool.proofs.HandLemmas.{hands-given, parts}
+use Rattle.ibos_send.proofs.Givings.{given-one}
 use Rattle.ibos_send.proofs.sends.give_left.Goals as goal
+
+pub returns-in-Some-clause-returned : goal.returns-in-Some-clause-returned
+returns-in-Some-clause-returned c = rw c.in-Some.is (given-one c.args.pool.now c.give.new.self c.in-Some.loan c.give.ensures.claimed)
 
 pub returns-in-Some-clause-hands : goal.returns-in-Some-clause-hands
 returns-in-Some-clause-hands c mem more hands =

@@ -1,7 +1,7 @@
 use Rattle.std.proofs.Common.{refl, sym, ◌∙◌, ap, List}
 use Rattle.std.proofs.lemmas.Result.{err_from_is_err_and}
 use Rattle.ibos_mediate.specs.Frames.{returns}
-use Rattle.ibos_send.proofs.ReturnSteps.{IsStep, Laws, State, all-next, fewer, serving-begins, serving-step, some-posted, told-all, told-step}
+use Rattle.ibos_send.proofs.ReturnSteps.{IsStep, Laws, State, all-next, fewer, lent-back, names-given, names-stay, sends-back, serving-begins, serving-step, some-posted, told-all, told-step}
 use Rattle.ibos_send.proofs.Words.{Held, Transmit, after_returns, held_in}
 use Rattle.ibos_send.proofs.sends.Sends.serve.Goals as goal
 
@@ -53,8 +53,7 @@ served-smaller c =
       keeps = taken.keeps;
       state = back.state;
       opened = back.«open»;
-      places = back.places;
-      areas = back.areas;
+      pooled = back.given;
       given = back.hands;
       given_owned = back.owned;
       given_unheld = back.unheld;
@@ -84,8 +83,7 @@ served-preserved c =
       keeps = taken.keeps;
       state = back.state;
       opened = back.«open»;
-      places = back.places;
-      areas = back.areas;
+      pooled = back.given;
       given = back.hands;
       given_owned = back.owned;
       given_unheld = back.unheld;
@@ -125,8 +123,7 @@ returns-in_err-told c =
       keeps = taken.keeps;
       state = back.state;
       opened = back.«open»;
-      places = back.places;
-      areas = back.areas;
+      pooled = back.given;
       given = back.hands;
       given_owned = back.owned;
       given_unheld = back.unheld;
@@ -139,6 +136,10 @@ returns-in_err-told c =
       state = rw out.1 tt;
       bell = rw out.1 tt;
       returns = rw out.1 tt;
+      back = sends-back first next serving;
+      given = names-given first next serving;
+      names = names-stay first next serving;
+      lent = lent-back first next serving;
       «open» = serving.opened;
       waiting = serving.waiting;
       posts = serving.posts;
@@ -172,6 +173,30 @@ returns-clause-state c =
 
 pub returns-clause-bell : goal.returns-clause-bell
 returns-clause-bell c = c.in_default.ensures.same ∙ sym (c.bells_end.ensures.ends Transmit c.served.mem c.served.med (c.in_default.ensures.none.0 refl)) ∙ c.served.invariant.serving.bell
+
+pub returns-clause-back : goal.returns-clause-back
+returns-clause-back c =
+    let first : State = record { sends = c.args.self.now; med = c.args.med.now; pool = c.args.pool.now; mem = c.args.mem.now } in
+    let now : State = record { sends = c.served.self; med = c.served.med; pool = c.served.pool; mem = c.served.mem } in
+    sends-back first now c.served.invariant.serving
+
+pub returns-clause-given : goal.returns-clause-given
+returns-clause-given c =
+    let first : State = record { sends = c.args.self.now; med = c.args.med.now; pool = c.args.pool.now; mem = c.args.mem.now } in
+    let now : State = record { sends = c.served.self; med = c.served.med; pool = c.served.pool; mem = c.served.mem } in
+    names-given first now c.served.invariant.serving
+
+pub returns-clause-names : goal.returns-clause-names
+returns-clause-names c =
+    let first : State = record { sends = c.args.self.now; med = c.args.med.now; pool = c.args.pool.now; mem = c.args.mem.now } in
+    let now : State = record { sends = c.served.self; med = c.served.med; pool = c.served.pool; mem = c.served.mem } in
+    names-stay first now c.served.invariant.serving
+
+pub returns-clause-lent : goal.returns-clause-lent
+returns-clause-lent c p =
+    let first : State = record { sends = c.args.self.now; med = c.args.med.now; pool = c.args.pool.now; mem = c.args.mem.now } in
+    let now : State = record { sends = c.served.self; med = c.served.med; pool = c.served.pool; mem = c.served.mem } in
+    rw c.in_default.ensures.same_memory (lent-back first now c.served.invariant.serving p)
 
 pub returns-clause-device : goal.returns-clause-device
 returns-clause-device c regs is = rw (c.in_default.ensures.same, c.in_default.ensures.same_memory) (c.served.invariant.serving.device regs is)
