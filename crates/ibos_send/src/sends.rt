@@ -12,10 +12,10 @@ ghost use Rattle.ibos_pool.specs.declared.name.Ring.{Ring};
 ghost use Rattle.ibos_pool.specs.declared.name.Ring.TheVariants.{Transmit};
 ghost use Rattle.ibos_pool.specs.declared.place.Place.{Place};
 ghost use Rattle.ibos_pool.specs.Hands.{AreAtHand, has_name, has_place};
-ghost use Rattle.ibos_pool.specs.Memory.{IsKept, Memory as Areas, buffer_at, is_lent_at};
+ghost use Rattle.ibos_pool.specs.Memory.{IsKept, Memory as Areas, buffer_at, bytes_at, is_lent_at};
 ghost use Rattle.ibos_pool.specs.Names.{Held, IsOneToOne, Names, is_taken, place_of};
-ghost use Rattle.ibos_pool.specs.Places.{IsPlaceIn};
-ghost use Rattle.ibos_pool.specs.Sizes.{buffer_bytes};
+ghost use Rattle.ibos_pool.specs.Places.{IsApart, IsPlaceIn, same_place, slot_address};
+ghost use Rattle.ibos_pool.specs.Sizes.{buffer_bytes, descriptor_bytes};
 ghost use Rattle.ibos_nic.specs.Registers.{Registers};
 ghost use Rattle.ibos_nic.specs.Rings.{Posts};
 ghost use Rattle.ibos_nic.specs.Rules.{transmit_rule};
@@ -302,6 +302,11 @@ impl Sends {
         ensures arrivals { arrivals mem.new med.new ≡ arrivals mem.old med.old }
         ensures done { (ring : Ring) → completed ring mem.new (ring_of med.new ring)
             ≡ completed ring mem.old (ring_of med.old ring) }
+        ensures bytes { (from n : ℕ) → IsApart from n (slot_address Transmit slot) descriptor_bytes
+            → bytes_at mem.new from n ≡ bytes_at mem.old from n }
+        ensures lent { OnOk result (IfSome (waiting_at self.old send) (λ w. (p : Place)
+            → is_lent_at mem.new p
+            ≡ (if same_place p w.loan.place then true else is_lent_at mem.old p))) }
         ensures buffers { (p : Place) → IsPlaceIn (length mem.old) p
             → buffer_at mem.new p ≡ buffer_at mem.old p }
         ensures areas { length mem.new ≡ length mem.old }
