@@ -1,6 +1,6 @@
 -- What a drill prints: its numbers, and how many of its acts had which outcome.
-use Rattle.std.specs.Prelude.{ℕ, ◌+◌, List, [], ◌∷◌, ◌++◌, Bool, true, false, not, length, codes}
-use Rattle.std.specs.Prelude.{decimal, if◌then◌else◌}
+use Rattle.std.specs.Prelude.{ℕ, ◌+◌, ◌≤◌, List, [], ◌∷◌, ◌++◌, Bool, true, false, not, length}
+use Rattle.std.specs.Prelude.{codes, decimal, if◌then◌else◌}
 use Rattle.ibos_kinds.specs.declared.names.Verdict.TheVariants.{Missed}
 use Rattle.ibos_kinds.specs.declared.outcome.Item.{Item}
 use Rattle.ibos_kinds.specs.declared.outcome.Item.TheVariants.{VerdictIs}
@@ -48,6 +48,14 @@ tally_of J = record {
   sent = count_of is_sent J;
 }
 
+-- each count is of some of the acts
+pub record IsTally (tally : Tally) : Type 0 where
+  pub done : tally.done ≤ tally.acts
+  pub denied : tally.denied ≤ tally.acts
+  pub heard : tally.heard ≤ tally.acts
+  pub missed : tally.missed ≤ tally.acts
+  pub sent : tally.sent ≤ tally.acts
+
 -- after one more act
 abbrev pub tally_after : Tally → Outcome → Tally
 tally_after tally outcome = record {
@@ -59,14 +67,27 @@ tally_after tally outcome = record {
   sent = one_if (is_sent outcome) tally.sent;
 }
 
+-- a word, a number, and what stands behind them
+abbrev pub numbered : List ℕ → ℕ → List ℕ → List ℕ
+numbered word n rest = word ++ (decimal n ++ rest)
+
+unfoldable pub numbers_text : ℕ → ℕ → List ℕ
+numbers_text seed rounds = numbered (codes "drill ") seed (numbered (codes " ") rounds [])
+
+unfoldable pub acts_text : Tally → List ℕ
+acts_text tally =
+    numbered (codes " acts ") tally.acts (numbered (codes " ok ") tally.done
+    (numbered (codes " denied ") tally.denied []))
+
+unfoldable pub frames_text : Tally → List ℕ
+frames_text tally =
+    numbered (codes " heard ") tally.heard (numbered (codes " missed ") tally.missed
+    (numbered (codes " sent ") tally.sent (codes "\n")))
+
 -- the line of a tally
 unfoldable pub summary_line : ℕ → ℕ → Tally → List ℕ
 summary_line seed rounds tally =
-    codes "drill " ++ decimal seed ++ codes " " ++ decimal rounds
-    ++ codes " acts " ++ decimal tally.acts ++ codes " ok " ++ decimal tally.done
-    ++ codes " denied " ++ decimal tally.denied ++ codes " heard " ++ decimal tally.heard
-    ++ codes " missed " ++ decimal tally.missed ++ codes " sent " ++ decimal tally.sent
-    ++ codes "\n"
+    numbers_text seed rounds ++ acts_text tally ++ frames_text tally
 
 -- the text of a drill
 unfoldable pub drill_text : ℕ → ℕ → List (List ℕ) → List ℕ

@@ -8,7 +8,7 @@ ghost use Rattle.ibos_model.specs.Runs as model;
 ghost use Rattle.ibos_kernel.specs.Standing.{Agrees, Stands};
 ghost use Rattle.ibos_run.specs.Device.{IsLogFront, IsLogOf, IsReset};
 ghost use Rattle.ibos_run.specs.Faults.{IsCaused};
-ghost use Rattle.ibos_run.specs.Inputs.{Drill};
+ghost use Rattle.ibos_run.specs.Inputs as spec;
 ghost use Rattle.ibos_run.specs.Session.{IsBroken, IsDrilled, IsTold};
 ghost use Rattle.ibos_run.specs.Summaries.{tally_of};
 
@@ -19,7 +19,10 @@ use crate::transfer::write_all;
 use ibos_kernel::Kernel;
 use ibos_kinds::{Memory, Outcome, Sink};
 use ibos_make::{Drill, drill_hosts};
-use ibos_model::{frames_are_fronts, frames_are_sent_in_turn, runs_go_on, sent_frames_are_fronts};
+use ibos_model::{
+    frames_are_fronts, frames_are_sent_in_turn, runs_go_on, sent_frames_are_fronts,
+    texts_are_fronts,
+};
 use ibos_nic::Nic;
 use std::alloc::Global;
 
@@ -37,9 +40,9 @@ pub fn run_drill<N: Nic, K: Sink>(
     requires reset { IsReset (N.regs nic.old) (N.log nic.old) }
     requires few { rounds ≤ MAX_ROUNDS }
     ensures status { IfOk result (λ status. status ≡ Status.Done) }
-    ensures told { OnOk result (IsTold (Drill seed rounds) (K.taken sink.old)
+    ensures told { OnOk result (IsTold (spec.Drill seed rounds) (K.taken sink.old)
         (K.taken sink.new) (N.regs nic.new) (N.log nic.new)) }
-    ensures broken { OnErr result (IsBroken (Drill seed rounds) (K.taken sink.old)
+    ensures broken { OnErr result (IsBroken (spec.Drill seed rounds) (K.taken sink.old)
         (K.taken sink.new) [] (N.log nic.new)) }
     ensures later { K.faults sink.old ≤ K.faults sink.new }
     ensures cause { IfErr result (λ fault.
@@ -52,7 +55,7 @@ pub fn run_drill<N: Nic, K: Sink>(
     kernel.close();
     let tally = made?;
     let line = summary(alloc, seed, rounds, &tally)?;
-    write_all(sink, line.as_bytes())?;
+    write_all(sink, line.as_slice())?;
     Ok(Status::Done)
 }
 
@@ -78,13 +81,16 @@ fn make_drill<N: Nic>(
 {
     // Called for the laws that are their clauses.
     runs_go_on();
+    texts_are_fronts();
     frames_are_fronts();
     sent_frames_are_fronts();
     frames_are_sent_in_turn();
     let mut outcome = Outcome::new(alloc);
     let mut tally = Tally::new();
     'acts: while let Some(act) = drill.next(alloc)? {
-        kernel.step(alloc, &act, nic, &mut outcome)?;
+        let stepped = kernel.step(alloc, &act, nic, &mut outcome);
+        drop(act);
+        stepped?;
         tally.count(&outcome);
     }
     Ok(tally)

@@ -1,8 +1,6 @@
 // How many acts of a drill had which outcome.
 ghost use Rattle.std.specs.Prelude.{◌≡◌, ◌<◌, ◌^◌, []};
-ghost use Rattle.ibos_model.specs.Journal as model;
-ghost use Rattle.ibos_run.specs.Summaries.{tally_after, tally_of};
-ghost use Rattle.ibos_run.specs.Summaries as spec;
+ghost use Rattle.ibos_run.specs.Summaries.{IsTally, tally_after, tally_of};
 
 use ibos_kinds::{Head, Item, Outcome, Verdict};
 
@@ -35,12 +33,8 @@ impl Tally {
 
     /// Counts one more act.
     pub fn count(&mut self, outcome: &Outcome)
+        requires tally { IsTally self.old }
         requires acts { self.old.acts < 2 ^ 31 }
-        requires done { self.old.done < 2 ^ 31 }
-        requires denied { self.old.denied < 2 ^ 31 }
-        requires heard { self.old.heard < 2 ^ 31 }
-        requires missed { self.old.missed < 2 ^ 31 }
-        requires sent { self.old.sent < 2 ^ 31 }
         ensures { self.new ≡ tally_after self.old outcome.now }
     {
         self.acts += 1;
@@ -49,8 +43,18 @@ impl Tally {
             Head::Denied(_) => self.denied += 1,
         }
         match outcome.items.as_slice() {
-            [Item::VerdictIs { verdict: Verdict::Heard }, ..] => self.heard += 1,
-            [Item::VerdictIs { verdict: Verdict::Missed }, ..] => self.missed += 1,
+            [
+                Item::VerdictIs {
+                    verdict: Verdict::Heard,
+                },
+                ..
+            ] => self.heard += 1,
+            [
+                Item::VerdictIs {
+                    verdict: Verdict::Missed,
+                },
+                ..
+            ] => self.missed += 1,
             [Item::SentIs { .. }, ..] => self.sent += 1,
             _ => {}
         }

@@ -5,7 +5,7 @@ ghost use Rattle.ibos_model.specs.Text as spec;
 ghost use Rattle.ibos_run.specs.Refusals.{Refusal, file_word, refusal_line};
 ghost use Rattle.ibos_run.specs.Words.{usage_line};
 ghost use Rattle.ibos_run.specs.Forms.{file_of};
-ghost use Rattle.ibos_run.specs.Summaries.{summary_line};
+ghost use Rattle.ibos_run.specs.Summaries.{acts_text, frames_text, numbers_text, summary_line};
 
 use crate::tally::Tally;
 use ibos_kinds::{Bytes, Memory};
@@ -49,18 +49,53 @@ pub fn end_line(alloc: Global, acts: u32) -> Result<String, AllocError>
 
 /// The line of a drill.
 #[tactic(auto, unfolding(crate::specs::Summaries::summary_line))]
-pub fn summary(alloc: Global, seed: u64, rounds: u32, tally: &Tally) -> Result<String, AllocError>
-    ensures { IfOk result (λ line. string_bytes line ≡ summary_line seed rounds tally.now) }
+pub fn summary(alloc: Global, seed: u64, rounds: u32, tally: &Tally) -> Result<Bytes, Memory>
+    ensures { IfOk result (λ line. line ≡ summary_line seed rounds tally.now) }
 {
-    let Tally {
-        acts,
-        done,
-        denied,
-        heard,
-        missed,
-        sent,
-    } = *tally;
-    format!(in alloc; "drill {seed} {rounds} acts {acts} ok {done} denied {denied} heard {heard} missed {missed} sent {sent}\n")
+    let numbers = numbers(alloc, seed, rounds)?;
+    let acts = act_counts(alloc, *tally)?;
+    let frames = frame_counts(alloc, *tally)?;
+    joined_three(
+        alloc,
+        numbers.as_bytes(),
+        acts.as_bytes(),
+        frames.as_bytes(),
+    )
+}
+
+// A format of all these pieces would be too long to be proved at once.
+#[tactic(auto, unfolding(crate::specs::Summaries::numbers_text))]
+fn numbers(alloc: Global, seed: u64, rounds: u32) -> Result<String, AllocError>
+    ensures { IfOk result (λ text. string_bytes text ≡ numbers_text seed rounds) }
+{
+    format!(in alloc; "drill {seed} {rounds}")
+}
+
+#[tactic(auto, unfolding(crate::specs::Summaries::acts_text))]
+fn act_counts(alloc: Global, tally: Tally) -> Result<String, AllocError>
+    ensures { IfOk result (λ text. string_bytes text ≡ acts_text tally) }
+{
+    let (acts, done, denied) = (tally.acts, tally.done, tally.denied);
+    format!(in alloc; " acts {acts} ok {done} denied {denied}")
+}
+
+#[tactic(auto, unfolding(crate::specs::Summaries::frames_text))]
+fn frame_counts(alloc: Global, tally: Tally) -> Result<String, AllocError>
+    ensures { IfOk result (λ text. string_bytes text ≡ frames_text tally) }
+{
+    let (heard, missed, sent) = (tally.heard, tally.missed, tally.sent);
+    format!(in alloc; " heard {heard} missed {missed} sent {sent}\n")
+}
+
+fn joined_three<'a>(
+    alloc: Global,
+    first: &'a [u8],
+    second: &'a [u8],
+    third: &'a [u8],
+) -> Result<Bytes, Memory>
+    ensures { IfOk result (λ text. text ≡ first.now ++ second.now ++ third.now) }
+{
+    joined(alloc, &[first, second, third])
 }
 
 /// The last line of a run that a fault of a file ended; `place` is the fault's line or entry.
