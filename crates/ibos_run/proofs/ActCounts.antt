@@ -4,10 +4,10 @@ use Rattle.std.proofs.lemmas.List.{length-map}
 use Rattle.std.specs.Prelude.{if◌then◌else◌, ◌==◌, ◌&&◌}
 use Rattle.ibos_script.specs.declared.fault.LineFault.{LineFault}
 use Rattle.ibos_script.specs.declared.lines.Line.{Line}
-use Rattle.ibos_script.specs.declared.lines.Line.TheVariants.{Act}
+use Rattle.ibos_script.specs.declared.lines.Line.TheVariants.{Act, NextFrame}
 use Rattle.ibos_script.specs.Lines.{line_in}
 use Rattle.ibos_text.specs.Lines.{lines_of, pieces_of, onto_first, without_return}
-use Rattle.ibos_run.specs.Readings.{Reading, reading_by, reading_from, refused_by, is_last}
+use Rattle.ibos_run.specs.Readings.{Reading, reading_by, reading_from, reading_next, refused_by, is_last}
 use Rattle.ibos_run.specs.Refusals.{too_long}
 
 first_few : (b : ℕ) (pieces : List (List ℕ)) (n : ℕ) → length pieces ≤ n → length (onto_first b pieces) ≤ n + 1
@@ -27,10 +27,16 @@ lines_few : (text : List ℕ) → length (lines_of text) ≤ length text
 unfolding lines_of
 lines_few text = omega (arith, length-map (pieces_of text) without_return, pieces_few text)
 
+frame_few : (number : ℕ) (frames : List (List ℕ)) (next : List (List ℕ) → Reading) (n : ℕ)
+    → ((fs : List (List ℕ)) → length (next fs).acts ≤ n) → length (reading_next number frames next).acts ≤ n + 1
+frame_few number [] next n few = omega arith
+frame_few number (frame ∷ frames) next n few = omega (arith, few frames)
+
 line_few : (number : ℕ) (line : Result (Option Line) LineFault) (frames : List (List ℕ)) (next : List (List ℕ) → Reading) (n : ℕ)
     → ((fs : List (List ℕ)) → length (next fs).acts ≤ n) → length (reading_by number line frames next).acts ≤ n + 1
 line_few number (Ok None) frames next n few = omega (arith, few frames)
 line_few number (Ok (Some (Act act))) frames next n few = omega (arith, few frames)
+line_few number (Ok (Some NextFrame)) frames next n few = frame_few number frames next n few
 line_few number (Err fault) frames next n few = omega arith
 
 next_few : (t : Bool) (number : ℕ) (line : Result (Option Line) LineFault) (frames : List (List ℕ)) (next : List (List ℕ) → Reading) (n : ℕ)

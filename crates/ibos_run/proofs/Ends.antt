@@ -7,15 +7,20 @@ use Rattle.std.specs.Prelude.{IfSome}
 use Rattle.ibos_origin.specs.Hosts.{HostTable}
 use Rattle.ibos_nic.specs.declared.log.LogEntry.{LogEntry}
 use Rattle.ibos_nic.specs.Registers.{Registers}
-use Rattle.ibos_run.specs.Inputs.{Input, NoForm, NoHosts, Session, journal_of, last_line, session_text, wanted}
-use Rattle.ibos_run.specs.Readings.{Reading}
+use Rattle.ibos_make.specs.Drill.{drill_acts, drill_table}
+use Rattle.ibos_run.specs.Inputs.{Input, NoForm, NoHosts, Session, Drill, journal_of, last_line, session_text, wanted}
+use Rattle.ibos_run.specs.Readings.{Reading, refused_by}
 use Rattle.ibos_run.specs.Refusals.{Refusal, refusal_line}
+use Rattle.ibos_run.specs.Summaries.{drill_journal}
 use Rattle.ibos_model.specs.Journal.{Journal, frames}
 use Rattle.ibos_model.specs.Logs.{frames_in, sent_in, written_in}
 use Rattle.ibos_model.specs.Laws.{AreRuns, AreSentRightly as AreRight, IsOfASend}
 use Rattle.ibos_model.specs.Network.{network, sent_frames}
 use Rattle.ibos_model.specs.Text.{text_of}
-use Rattle.ibos_run.specs.Device.{AreSentRightly, IsLogFront, IsLogOf, IsLogged, IsLoggedFront}
+use Rattle.ibos_run.specs.Device.{AreRegistersOf, AreSentRightly, IsLogFront, IsLogOf, IsLogged, IsLoggedFront}
+use Rattle.ibos_run.specs.Faults.{OnWhole}
+use Rattle.ibos_run.specs.declared.fault.Status.{Status}
+use Rattle.ibos_run.specs.declared.fault.Status.TheVariants.{Done, Usage, Refused, ReadFault, WriteFault, Memory as NoMemory}
 use Rattle.ibos_run.specs.Session.{IsBroken, IsServed, IsStopped, IsTold}
 use Rattle.ibos_run.specs.Took.{Took, TookFront}
 use Rattle.ibos_run.proofs.Sessions.{IsOver}
@@ -69,13 +74,17 @@ stopped_broken H whole first now gathered l stopped = record { text = stopped.te
 
 -- ---- before a session
 
+none_front : (J : Journal) (l : List LogEntry) → l ≡ [] → IsLogFront J l
+none_front J l is = record {
+  came = (frames J, ap (λ (m : List LogEntry). frames_in m ++ frames J) is);
+  sent = (sent_frames (network J), ap (λ (m : List LogEntry). sent_in m ++ sent_frames (network J)) is);
+}
+
 none_logged : (i : Input) (l : List LogEntry) → l ≡ [] → IsLoggedFront i l
 none_logged NoForm l is = is
 none_logged (NoHosts refusal) l is = is
-none_logged (Session H reading) l is = record {
-  came = (frames (journal_of H reading (written_in l)), ap (λ (m : List LogEntry). frames_in m ++ frames (journal_of H reading (written_in l))) is);
-  sent = (sent_frames (network (journal_of H reading (written_in l))), ap (λ (m : List LogEntry). sent_in m ++ sent_frames (network (journal_of H reading (written_in l)))) is);
-}
+none_logged (Session H reading) l is = none_front (journal_of H reading (written_in l)) l is
+none_logged (Drill seed rounds) l is = none_front (drill_journal seed rounds (written_in l)) l is
 
 -- nothing was taken, and nothing is gathered
 pub untouched : (i : Input) (first : Option (List ℕ)) (gathered : List ℕ) (l : List LogEntry) → gathered ≡ [] → l ≡ [] → IsBroken i first first gathered l
@@ -104,6 +113,38 @@ refused_told refusal first now f l none took = record { text = took; logged = no
 pub refused_broken : (refusal : Refusal) (first now : Option (List ℕ)) (gathered : List ℕ) (l : List LogEntry) → l ≡ [] → TookFront first now gathered (refusal_line refusal) → IsBroken (NoHosts refusal) first now gathered l
 refused_broken refusal first now gathered l none front = record { text = front; logged = none }
 
+-- the capture has a fault
+pub capture_told : (H : HostTable) (refusal : Refusal) (first now : Option (List ℕ)) (f : Registers) (l : List LogEntry) → l ≡ [] → Took first now [] (refusal_line refusal) → IsTold (Session H (refused_by refusal)) first now f l
+unfolding session_text network
+capture_told H refusal first now f l none took = record {
+  text = took;
+  logged = record { came = ap frames_in none; sent = ap sent_in none };
+  registers = λ whole. cc;
+}
+
+pub capture_broken : (H : HostTable) (refusal : Refusal) (first now : Option (List ℕ)) (gathered : List ℕ) (l : List LogEntry) → l ≡ [] → TookFront first now gathered (refusal_line refusal) → IsBroken (Session H (refused_by refusal)) first now gathered l
+unfolding session_text
+capture_broken H refusal first now gathered l none front = record { text = front; logged = none_front (journal_of H (refused_by refusal) (written_in l)) l none }
+
+-- ---- what registers are
+
+pub on_whole : (status : Status) (P : Type 0) → P → OnWhole status P
+on_whole Done P holds = holds
+on_whole Usage P holds = holds
+on_whole Refused P holds = holds
+on_whole ReadFault P holds = tt
+on_whole WriteFault P holds = tt
+on_whole NoMemory P holds = tt
+
+registers_if : (i : Option Input) (first now : Option (List ℕ)) (f : Registers) (l : List LogEntry) → IfSome i (λ i. IsTold i first now f l) → IfSome i (λ i. AreRegistersOf i f (written_in l))
+registers_if None first now f l told = tt
+registers_if (Some i) first now f l told = told.registers
+
+pub told_registers : (i j : Option Input) → j ≡ i → (first now : Option (List ℕ)) (f : Registers) (l : List LogEntry) → IfSome i (λ i. IsTold i first now f l) → IfSome j (λ i. AreRegistersOf i f (written_in l))
+told_registers i j same first now f l told =
+    let P : Option Input → Type 0 = λ x. IfSome x (λ i. AreRegistersOf i f (written_in l)) in
+    subst P (sym same) (registers_if i first now f l told)
+
 -- ---- what went out
 
 -- what holds of all holds of each front
@@ -119,6 +160,10 @@ sent_right runs right (Session H reading) l logged =
     let J : Journal = journal_of H reading (written_in l) in
     let P : List (List ℕ) → Type 0 = All (IsOfASend H J) in
     all_of_front (IsOfASend H J) (sent_in l) logged.sent.0 (subst P (sym logged.sent.1) (right H J (runs H reading.acts (written_in l))))
+sent_right runs right (Drill seed rounds) l logged =
+    let J : Journal = drill_journal seed rounds (written_in l) in
+    let P : List (List ℕ) → Type 0 = All (IsOfASend drill_table J) in
+    all_of_front (IsOfASend drill_table J) (sent_in l) logged.sent.0 (subst P (sym logged.sent.1) (right drill_table J (runs drill_table (drill_acts seed rounds) (written_in l))))
 
 front_right_if : AreRuns → AreRight → (i : Option Input) (l : List LogEntry) → IfSome i (λ i. IsLoggedFront i l) → IfSome i (λ i. AreSentRightly i l)
 front_right_if runs right None l logged = tt
@@ -128,6 +173,7 @@ logged_front : (i : Input) (l : List LogEntry) → IsLogged i l → IsLoggedFron
 logged_front NoForm l logged = logged
 logged_front (NoHosts refusal) l logged = logged
 logged_front (Session H reading) l logged = all_front (journal_of H reading (written_in l)) l logged
+logged_front (Drill seed rounds) l logged = all_front (drill_journal seed rounds (written_in l)) l logged
 
 told_front_if : (i : Option Input) (first now : Option (List ℕ)) (f : Registers) (l : List LogEntry) → IfSome i (λ i. IsTold i first now f l) → IfSome i (λ i. IsLoggedFront i l)
 told_front_if None first now f l told = tt

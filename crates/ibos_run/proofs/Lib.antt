@@ -4,5 +4,7 @@ pub mod ActCounts
 pub mod Readings
 pub mod Sessions
 pub mod Drills
+pub mod Captures
 pub mod Files
+pub mod Causes
 pub mod Ends

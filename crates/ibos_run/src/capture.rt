@@ -99,7 +99,7 @@ impl<'a> Frames<'a> {
 
     /// All of them.
     pub fn new(capture: Option<&'a Capture>) -> Frames<'a>
-        ensures { result ≡ frames_of (option_copied capture) }
+        ensures { result ≡ frames_of (option_copied capture.entry) }
     {
         Frames { capture, used: 0 }
     }

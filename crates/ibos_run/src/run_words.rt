@@ -22,8 +22,8 @@ use crate::capture::{Capture, Frames};
 use crate::drill::run_drill;
 use crate::fault::{Fault, Status};
 use crate::gather::{hand_over, make_room};
-use crate::script::MAX_SCRIPT_LEN;
 use crate::numbers::{read_rounds, read_seed};
+use crate::script::MAX_SCRIPT_LEN;
 use crate::session::run_session;
 use crate::texts::{File, refusal, usage};
 use crate::transfer::{read_file, write_all};
@@ -167,7 +167,10 @@ pub enum Form<'a> {
         capture: Option<&'a Bytes>,
     },
     /// A drill.
-    Rounds { seed: u64, rounds: u32 },
+    Rounds {
+        seed: u64,
+        rounds: u32,
+    },
 }
 
 fn read_form(words: &[Bytes]) -> Option<Form<'_>>
@@ -217,18 +220,18 @@ fn run_form<C: Cabinet, N: Nic, K: Sink>(
     requires reset { IsReset (N.regs nic.old) (N.log nic.old) }
     requires few { IsBounded form }
     ensures status { IfOk result (λ status.
-        IfSome (input_of (C.holds cabinet.old) (form_of form)) (λ i. status ≡ status_for i)) }
+        IfSome (input_of (C.holds cabinet.old) (form_of form.entry)) (λ i. status ≡ status_for i)) }
     ensures told { OnOk result (
-        IfSome (input_of (C.holds cabinet.old) (form_of form)) (λ i.
+        IfSome (input_of (C.holds cabinet.old) (form_of form.entry)) (λ i.
         IsTold i (K.taken sink.old) (K.taken sink.new) (N.regs nic.new) (N.log nic.new))) }
     ensures broken { OnErr result (
-        IfSome (input_of (C.holds cabinet.old) (form_of form)) (λ i.
+        IfSome (input_of (C.holds cabinet.old) (form_of form.entry)) (λ i.
         IsBroken i (K.taken sink.old) (K.taken sink.new) [] (N.log nic.new))) }
     ensures ends { IfOk result (λ status. (status ≡ Status.Done) ⊎ (status ≡ Status.Refused)) }
     ensures holds { (name : List ℕ) → C.holds cabinet.new name ≡ C.holds cabinet.old name }
     ensures cause { IfErr result (λ fault. IsCaused fault
         (Any (λ name. Rose (C.faults cabinet.old name) (C.faults cabinet.new name))
-        (files_of (form_of form)))
+        (files_of (form_of form.entry)))
         (Rose (K.faults sink.old) (K.faults sink.new))) }
 {
     match form {
@@ -254,21 +257,21 @@ fn run_files<C: Cabinet, N: Nic, K: Sink>(
     requires { IsReset (N.regs nic.old) (N.log nic.old) }
     ensures status { IfOk result (λ status.
         IfSome (input_of (C.holds cabinet.old)
-        (Files hosts.now script.now (option_copied capture))) (λ i.
+        (Files hosts.now script.now (option_copied capture.entry))) (λ i.
         status ≡ status_for i)) }
     ensures told { OnOk result (
         IfSome (input_of (C.holds cabinet.old)
-        (Files hosts.now script.now (option_copied capture))) (λ i.
+        (Files hosts.now script.now (option_copied capture.entry))) (λ i.
         IsTold i (K.taken sink.old) (K.taken sink.new) (N.regs nic.new) (N.log nic.new))) }
     ensures broken { OnErr result (
         IfSome (input_of (C.holds cabinet.old)
-        (Files hosts.now script.now (option_copied capture))) (λ i.
+        (Files hosts.now script.now (option_copied capture.entry))) (λ i.
         IsBroken i (K.taken sink.old) (K.taken sink.new) [] (N.log nic.new))) }
     ensures ends { IfOk result (λ status. (status ≡ Status.Done) ⊎ (status ≡ Status.Refused)) }
     ensures holds { (name : List ℕ) → C.holds cabinet.new name ≡ C.holds cabinet.old name }
     ensures cause { IfErr result (λ fault. IsCaused fault
         (Any (λ name. Rose (C.faults cabinet.old name) (C.faults cabinet.new name))
-        (files_of (Files hosts.now script.now (option_copied capture))))
+        (files_of (Files hosts.now script.now (option_copied capture.entry))))
         (Rose (K.faults sink.old) (K.faults sink.new))) }
 {
     let mut text = make_room(alloc)?;
@@ -295,22 +298,22 @@ fn gather<C: Cabinet, N: Nic, K: Sink>(
     requires empty { text.old ≡ [] }
     ensures status { IfOk result (λ status.
         IfSome (input_of (C.holds cabinet.old)
-        (Files hosts.now script.now (option_copied capture))) (λ i.
+        (Files hosts.now script.now (option_copied capture.entry))) (λ i.
         status ≡ status_for i)) }
     ensures told { OnOk result (
         IfSome (input_of (C.holds cabinet.old)
-        (Files hosts.now script.now (option_copied capture))) (λ i.
+        (Files hosts.now script.now (option_copied capture.entry))) (λ i.
         IsTold i (K.taken sink.old) (K.taken sink.new) (N.regs nic.new) (N.log nic.new))) }
     ensures broken { OnErr result (
         IfSome (input_of (C.holds cabinet.old)
-        (Files hosts.now script.now (option_copied capture))) (λ i.
+        (Files hosts.now script.now (option_copied capture.entry))) (λ i.
         IsBroken i (K.taken sink.old) (K.taken sink.new) text.new (N.log nic.new))) }
     ensures ends { IfOk result (λ status. (status ≡ Status.Done) ⊎ (status ≡ Status.Refused)) }
     ensures holds { (name : List ℕ) → C.holds cabinet.new name ≡ C.holds cabinet.old name }
     ensures later { K.faults sink.old ≤ K.faults sink.new }
     ensures cause { IfErr result (λ fault. IsCaused fault
         (Any (λ name. Rose (C.faults cabinet.old name) (C.faults cabinet.new name))
-        (files_of (Files hosts.now script.now (option_copied capture))))
+        (files_of (Files hosts.now script.now (option_copied capture.entry))))
         (Rose (K.faults sink.old) (K.faults sink.new))) }
 {
     match read_hosts(alloc, cabinet, hosts)? {
@@ -378,14 +381,14 @@ fn gather_capture<C: Cabinet, N: Nic, K: Sink>(
     requires reset { IsReset (N.regs nic.old) (N.log nic.old) }
     requires empty { text.old ≡ [] }
     ensures status { IfOk result (λ status.
-        IfSome (session_in hosts (frames_by (C.holds cabinet.old) (option_copied capture))
+        IfSome (session_in hosts (frames_by (C.holds cabinet.old) (option_copied capture.entry))
         (C.holds cabinet.old script.now)) (λ i. status ≡ status_for i)) }
     ensures told { OnOk result (
-        IfSome (session_in hosts (frames_by (C.holds cabinet.old) (option_copied capture))
+        IfSome (session_in hosts (frames_by (C.holds cabinet.old) (option_copied capture.entry))
         (C.holds cabinet.old script.now)) (λ i.
         IsTold i (K.taken sink.old) (K.taken sink.new) (N.regs nic.new) (N.log nic.new))) }
     ensures broken { OnErr result (
-        IfSome (session_in hosts (frames_by (C.holds cabinet.old) (option_copied capture))
+        IfSome (session_in hosts (frames_by (C.holds cabinet.old) (option_copied capture.entry))
         (C.holds cabinet.old script.now)) (λ i.
         IsBroken i (K.taken sink.old) (K.taken sink.new) text.new (N.log nic.new))) }
     ensures ends { IfOk result (λ status. (status ≡ Status.Done) ⊎ (status ≡ Status.Refused)) }
@@ -394,11 +397,20 @@ fn gather_capture<C: Cabinet, N: Nic, K: Sink>(
     ensures later { K.faults sink.old ≤ K.faults sink.new }
     ensures cause { IfErr result (λ fault. IsCaused fault
         (Any (λ name. Rose (C.faults cabinet.old name) (C.faults cabinet.new name))
-        (with_capture (option_copied capture) (script.now ∷ [])))
+        (with_capture (option_copied capture.entry) (script.now ∷ [])))
         (Rose (K.faults sink.old) (K.faults sink.new))) }
 {
     let Some(name) = capture else {
-        return gather_script(alloc, hosts, script, Frames::new(None), cabinet, nic, text, sink);
+        return gather_script(
+            alloc,
+            hosts,
+            script,
+            Frames::new(None),
+            cabinet,
+            nic,
+            text,
+            sink,
+        );
     };
     match Capture::read(alloc, cabinet, name)? {
         Ok(capture) => {
@@ -450,12 +462,12 @@ fn gather_script<C: Cabinet, N: Nic, K: Sink>(
     requires reset { IsReset (N.regs nic.old) (N.log nic.old) }
     requires empty { text.old ≡ [] }
     ensures status { IfOk result (λ status.
-        IfSome (script_with hosts frames (C.holds cabinet.old name.now)) (λ i. status ≡ status_for i)) }
+        IfSome (script_with hosts frames.entry (C.holds cabinet.old name.now)) (λ i. status ≡ status_for i)) }
     ensures told { OnOk result (
-        IfSome (script_with hosts frames (C.holds cabinet.old name.now)) (λ i.
+        IfSome (script_with hosts frames.entry (C.holds cabinet.old name.now)) (λ i.
         IsTold i (K.taken sink.old) (K.taken sink.new) (N.regs nic.new) (N.log nic.new))) }
     ensures broken { OnErr result (
-        IfSome (script_with hosts frames (C.holds cabinet.old name.now)) (λ i.
+        IfSome (script_with hosts frames.entry (C.holds cabinet.old name.now)) (λ i.
         IsBroken i (K.taken sink.old) (K.taken sink.new) text.new (N.log nic.new))) }
     ensures ends { IfOk result (λ status. (status ≡ Status.Done) ⊎ (status ≡ Status.Refused)) }
     ensures holds { (name : List ℕ) → C.holds cabinet.new name ≡ C.holds cabinet.old name }

@@ -61,7 +61,7 @@ impl<'a> Script<'a> {
     #[tactic(auto, unfolding(crate::specs::Readings::reading_of))]
     pub fn new(text: &'a [u8], frames: Frames<'a>) -> Script<'a>
         requires { length text.now ≤ MAX_SCRIPT_LEN + 1 }
-        ensures reading { result ≡ reading_of frames text.now }
+        ensures reading { result ≡ reading_of frames.entry text.now }
         ensures few { length result.acts ≤ length text.now }
     {
         Script {

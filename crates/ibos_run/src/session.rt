@@ -43,10 +43,10 @@ pub fn run_session<N: Nic, K: Sink>(
     requires within { length script.now ≤ MAX_SCRIPT_LEN + 1 }
     requires reset { IsReset (N.regs nic.old) (N.log nic.old) }
     requires empty { text.old ≡ [] }
-    ensures status { IfOk result (λ status. status ≡ ending (reading_of frames script.now).refused) }
-    ensures told { OnOk result (IsTold (Session hosts (reading_of frames script.now))
+    ensures status { IfOk result (λ status. status ≡ ending (reading_of frames.entry script.now).refused) }
+    ensures told { OnOk result (IsTold (Session hosts (reading_of frames.entry script.now))
         (K.taken sink.old) (K.taken sink.new) (N.regs nic.new) (N.log nic.new)) }
-    ensures broken { OnErr result (IsBroken (Session hosts (reading_of frames script.now))
+    ensures broken { OnErr result (IsBroken (Session hosts (reading_of frames.entry script.now))
         (K.taken sink.old) (K.taken sink.new) text.new (N.log nic.new)) }
     ensures later { K.faults sink.old ≤ K.faults sink.new }
     ensures cause { IfErr result (λ fault.

@@ -6,7 +6,7 @@ use Rattle.ibos_run.proofs.script.Script.next.Given as goal
 -- the lines so far asked for nothing
 abbrev pub invariant-lines : goal.invariant-lines
 invariant-lines l = record {
-  same : reading_from l.self-inside.passes (l.self-inside.lines + 1) (lines_of l.self-inside.rest.now) [] ≡ l.fn.self;
+  same : reading_from l.self-inside.passes (l.self-inside.lines + 1) (lines_of l.self-inside.rest.now) l.self-inside.frames ≡ l.fn.self;
   within : l.self-inside.lines + length l.self-inside.rest.now < 2 ^ 31;
 }
 
