@@ -20,11 +20,11 @@ use Rattle.ibos_kernel.specs.Tables.{Tables}
 use Rattle.ibos_run.specs.Device.{IsLogFront, IsLogOf}
 use Rattle.ibos_run.specs.Inputs.{Drill, wanted}
 use Rattle.ibos_run.specs.Readings.{Reading}
-use Rattle.ibos_run.specs.Session.{IsBroken, IsCut, IsDrilled, IsMade, IsTold}
+use Rattle.ibos_run.specs.Session.{IsBroken, IsCut, IsDrilled, IsMade, IsServing, IsTold}
 use Rattle.ibos_run.specs.Summaries.{IsTally, count_of, drill_journal, drill_text, is_denied, is_done, is_missed, one_if, summary_line, tally_after, tally_of}
 use Rattle.ibos_run.specs.Took.{Took, TookFront}
 use Rattle.ibos_run.specs.declared.tally.Tally.{Tally}
-use Rattle.ibos_run.proofs.Sessions.{IsServing, agrees_there, cut_stopped, next_serving, paused, start_serving}
+use Rattle.ibos_run.proofs.Sessions.{agrees_there, cut_stopped, next_serving, paused, start_serving}
 use Rattle.ibos_run.proofs.Taken.{front_kept, took_none}
 
 -- ---- counts

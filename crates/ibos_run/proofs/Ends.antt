@@ -21,9 +21,8 @@ use Rattle.ibos_run.specs.Device.{AreRegistersOf, AreSentRightly, IsLogFront, Is
 use Rattle.ibos_run.specs.Faults.{OnWhole}
 use Rattle.ibos_run.specs.declared.fault.Status.{Status}
 use Rattle.ibos_run.specs.declared.fault.Status.TheVariants.{Done, Usage, Refused, ReadFault, WriteFault, Memory as NoMemory}
-use Rattle.ibos_run.specs.Session.{IsBroken, IsServed, IsStopped, IsTold}
+use Rattle.ibos_run.specs.Session.{IsBroken, IsOver, IsServed, IsStopped, IsTold}
 use Rattle.ibos_run.specs.Took.{Took, TookFront}
-use Rattle.ibos_run.proofs.Sessions.{IsOver}
 use Rattle.ibos_run.proofs.Taken.{front_kept, front_more, front_of, front_then, took_more, took_then}
 
 -- the last line joins what is gathered

@@ -5,8 +5,8 @@ use Rattle.std.specs.Option.{option_map}
 use Rattle.ibos_capture.specs.declared.fault.CapFault.{CapFault}
 use Rattle.ibos_capture.specs.Captures.{capture_in}
 use Rattle.ibos_origin.specs.Hosts.{HostTable}
-use Rattle.ibos_run.specs.Inputs.{Input, Session, frames_by, frames_in, script_with, session_in, table_in}
-use Rattle.ibos_run.specs.Readings.{script_in, reading_of, refused_by}
+use Rattle.ibos_run.specs.Inputs.{Input, Session, frames_by, frames_in, session_in, table_in}
+use Rattle.ibos_run.specs.Readings.{refused_by}
 use Rattle.ibos_run.specs.Refusals.{capture_refusal}
 
 pub table_file : (held : Option (List ℕ)) (text : List ℕ) (P : List ℕ → Type 0) → IfSome held (λ file. text ≡ take 4194305 file) → P text → IfSome held (λ file. P (table_in file))
@@ -21,14 +21,6 @@ capture_file None text P is holds = tt
 capture_file (Some file) text P is holds =
     let Q : List ℕ → Type 0 = λ text. P (capture_in text) in
     subst Q is holds
-
-pub script_file : (H : HostTable) (frames : List (List ℕ)) (held : Option (List ℕ)) (text given : List ℕ) (Q : Input → Type 0) → IfSome held (λ file. text ≡ take 67108865 file) → given ≡ text
-    → Q (Session H (reading_of frames given)) → IfSome (script_with H frames held) Q
-unfolding script_in
-script_file H frames None text given Q is same holds = tt
-script_file H frames (Some file) text given Q is same holds =
-    let P : List ℕ → Type 0 = λ text. Q (Session H (reading_of frames text)) in
-    subst P is (subst P same holds)
 
 -- the capture has a fault
 pub at_capture : (H : HostTable) (held script : Option (List ℕ)) (fault : ℕ × CapFault) (Q : Input → Type 0) → IfSome held (λ file. frames_in file ≡ Err fault)

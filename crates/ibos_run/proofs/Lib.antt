@@ -1,8 +1,11 @@
 pub mod Taken
 pub mod Pieces
-pub mod ActCounts
 pub mod Readings
+pub mod FirstLines
+pub mod Windows
 pub mod Sessions
+pub mod Served
+pub mod Scripts
 pub mod Drills
 pub mod Captures
 pub mod Files

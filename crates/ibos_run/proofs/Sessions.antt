@@ -20,19 +20,9 @@ use Rattle.ibos_run.specs.Readings.{Reading, onto_acts}
 use Rattle.ibos_run.specs.Refusals.{Refusal}
 use Rattle.ibos_kernel.specs.Tables.{Tables}
 use Rattle.ibos_kernel.specs.Standing.{Agrees, AreTogether, Stands, entry}
-use Rattle.ibos_run.specs.Session.{IsCut, IsMade, IsServed, IsStopped}
+use Rattle.ibos_run.specs.Session.{IsCut, IsMade, IsOver, IsServing, IsStopped}
 use Rattle.ibos_run.specs.Took.{Took, TookFront}
 use Rattle.ibos_run.proofs.Taken.{front_more, front_of, front_then, took_more, took_none, took_then}
-
--- where a session stands: the journal so far, and what is left of the script
-pub record IsServing (H : HostTable) (whole left : Reading) (first now : Option (List ℕ)) (gathered : List ℕ) (k : Tables) (f : Registers) (l : List LogEntry) (J : Journal) : Type 0 where
-  pub stands : Stands J k
-  pub table : k.hosts ≡ H
-  pub agrees : Agrees H J f l
-  pub text : Took first now gathered (text_of J)
-  pub goes : GoesOn H J left.acts whole.acts
-  pub came : frames_in l ≡ frames J
-  pub refuses : left.refused ≡ whole.refused
 
 pub start_serving : (whole : Reading) (first : Option (List ℕ)) (gathered : List ℕ) (k : Tables) (f : Registers) (l : List LogEntry)
     → Stands [] k → Agrees k.hosts [] f l → l ≡ [] → gathered ≡ [] → IsServing k.hosts whole whole first first gathered k f l []
@@ -201,11 +191,6 @@ cut_stopped fronts frame_fronts sent_fronts in_turn H whole left after first now
         (ap sent_in sent.1 ∙ ap (λ fs. fs ++ b ∷ []) serving.agrees.sent ∙ sent_so (is_sent (out H J act)) b (sent_frames (network J)) sent.0 ∙ sym (in_turn H J e after-run)) after-run on
 
 -- ---- the script's end
-
-pub record IsOver (H : HostTable) (whole : Reading) (first now : Option (List ℕ)) (gathered : List ℕ) (f : Registers) (l : List LogEntry) (acts : ℕ) (refused : Option Refusal) : Type 0 where
-  pub served : IsServed H whole first now gathered f l
-  pub counted : acts ≡ length (journal_of H whole (written_in l))
-  pub refuses : refused ≡ whole.refused
 
 pub over : (H : HostTable) (whole left : Reading) (first now : Option (List ℕ)) (gathered : List ℕ) (k : Tables) (f : Registers) (l : List LogEntry) (J : Journal) (refused : Option Refusal)
     → IsServing H whole left first now gathered k f l J → left ≡ record { acts = []; refused = refused } → IsOver H whole first now gathered f l k.acts refused

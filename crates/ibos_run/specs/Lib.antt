@@ -4,6 +4,7 @@ pub mod Readings
 pub mod Summaries
 pub mod Inputs
 pub mod Took
+pub mod Sources
 pub mod Device
 pub mod Session
 pub mod Faults

@@ -1,13 +1,10 @@
--- A script that is read act by act.
-use Rattle.std.specs.Prelude.{◌≡◌, ◌≢◌, ℕ, List, [], Option, Some, None}
-use Rattle.ibos_kinds.specs.Limits.{Fits}
+-- How a script ends.
+use Rattle.std.specs.Prelude.{◌≢◌, ℕ, List, [], Option, Some, None}
 use Rattle.ibos_script.specs.declared.fault.LineFault.TheVariants.{Memory}
-use Rattle.ibos_run.specs.Readings.{Reading, onto_acts}
+use Rattle.ibos_run.specs.Readings.{Reading}
 use Rattle.ibos_run.specs.Refusals.{Refusal, line_refusal, no_frame, too_long}
 use Rattle.ibos_run.specs.declared.script.End.{End}
 use Rattle.ibos_run.specs.declared.script.End.TheVariants.{Whole, NoFrame, TooLong, Refused}
-use Rattle.ibos_run.specs.declared.script.Next.{Next}
-use Rattle.ibos_run.specs.declared.script.Next.TheVariants.{Act as NextAct, End as NextEnd}
 
 -- the fault that an end tells
 abbrev pub refusal_of : End → Option Refusal
@@ -21,11 +18,14 @@ abbrev pub IsOfScript : End → Type 0
 IsOfScript (Refused line fault) = fault ≢ Memory
 IsOfScript other = Unit {0}
 
--- what is left of a script begins with this act, which its ranges allow, or this is its end
-abbrev pub Leads : Reading → Next → Reading → Type 0
-Leads old (NextAct act) new = (old ≡ onto_acts act new) × Fits act
-Leads old (NextEnd end) new = (old ≡ record { acts = []; refused = refusal_of end })
-    × IsOfScript end
+-- an end, where nothing more is made
+abbrev pub ended_by : End → Reading
+ended_by end = record { acts = []; refused = refusal_of end }
+
+-- what is left of a script behind a line: that, unless the script ends there
+abbrev pub behind_end : Option End → Reading → Reading
+behind_end None left = left
+behind_end (Some end) left = ended_by end
 
 -- the frames of a capture, if one is named
 abbrev pub frames_of : Option (List (List ℕ)) → List (List ℕ)

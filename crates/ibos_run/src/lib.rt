@@ -9,6 +9,7 @@ mod numbers;
 mod run_words;
 mod script;
 mod session;
+mod source;
 mod tally;
 mod texts;
 mod transfer;

@@ -23,7 +23,6 @@ use crate::drill::run_drill;
 use crate::fault::{Fault, Status};
 use crate::gather::{hand_over, make_room};
 use crate::numbers::{read_rounds, read_seed};
-use crate::script::MAX_SCRIPT_LEN;
 use crate::session::run_session;
 use crate::texts::{File, refusal, usage};
 use crate::transfer::{read_file, write_all};
@@ -49,8 +48,9 @@ const MAX_HOSTS_LEN: usize = 4_194_304;
 /// same way, and writes one line that counts them. Any other words are answered with the usage
 /// line, for which no memory is taken.
 ///
-/// The device is at reset, and is asked for nothing until the files are read. In the clauses W is
-/// what it wrote for the frames that came in, by its log at the end.
+/// The script is read line by line while it is run, so acts may have been made before a read of it
+/// fails. The device is at reset, and is asked for nothing until the other files are read. In the
+/// clauses W is what it wrote for the frames that came in, by its log at the end.
 ///
 /// # Examples
 ///
@@ -401,7 +401,7 @@ fn gather_capture<C: Cabinet, N: Nic, K: Sink>(
         (Rose (K.faults sink.old) (K.faults sink.new))) }
 {
     let Some(name) = capture else {
-        return gather_script(
+        return run_session(
             alloc,
             hosts,
             script,
@@ -415,7 +415,7 @@ fn gather_capture<C: Cabinet, N: Nic, K: Sink>(
     match Capture::read(alloc, cabinet, name)? {
         Ok(capture) => {
             let frames = Frames::new(Some(&capture));
-            gather_script(alloc, hosts, script, frames, cabinet, nic, text, sink)
+            run_session(alloc, hosts, script, frames, cabinet, nic, text, sink)
         }
         Err(CaptureFault::At { entry, fault }) => {
             let status = refuse_capture(alloc, entry, fault, text, sink)?;
@@ -447,37 +447,4 @@ fn refuse_capture<K: Sink>(
     text.push_slice(last.as_slice())?;
     hand_over(text, sink)?;
     Ok(Status::Refused)
-}
-
-fn gather_script<C: Cabinet, N: Nic, K: Sink>(
-    alloc: Global,
-    hosts: Hosts,
-    name: &Bytes,
-    frames: Frames<'_>,
-    cabinet: &mut C,
-    nic: &mut N,
-    text: &mut Bytes,
-    sink: &mut K,
-) -> Result<Status, Fault>
-    requires reset { IsReset (N.regs nic.old) (N.log nic.old) }
-    requires empty { text.old ≡ [] }
-    ensures status { IfOk result (λ status.
-        IfSome (script_with hosts frames.entry (C.holds cabinet.old name.now)) (λ i. status ≡ status_for i)) }
-    ensures told { OnOk result (
-        IfSome (script_with hosts frames.entry (C.holds cabinet.old name.now)) (λ i.
-        IsTold i (K.taken sink.old) (K.taken sink.new) (N.regs nic.new) (N.log nic.new))) }
-    ensures broken { OnErr result (
-        IfSome (script_with hosts frames.entry (C.holds cabinet.old name.now)) (λ i.
-        IsBroken i (K.taken sink.old) (K.taken sink.new) text.new (N.log nic.new))) }
-    ensures ends { IfOk result (λ status. (status ≡ Status.Done) ⊎ (status ≡ Status.Refused)) }
-    ensures holds { (name : List ℕ) → C.holds cabinet.new name ≡ C.holds cabinet.old name }
-    ensures files_later { (name : List ℕ) → C.faults cabinet.old name ≤ C.faults cabinet.new name }
-    ensures later { K.faults sink.old ≤ K.faults sink.new }
-    ensures cause { IfErr result (λ fault. IsCaused fault
-        (Rose (C.faults cabinet.old name.now) (C.faults cabinet.new name.now))
-        (Rose (K.faults sink.old) (K.faults sink.new))) }
-{
-    let script = read_file(alloc, cabinet, name, MAX_SCRIPT_LEN)?;
-    let status = run_session(alloc, hosts, script.as_slice(), frames, nic, text, sink)?;
-    Ok(status)
 }

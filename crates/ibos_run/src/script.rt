@@ -1,21 +1,28 @@
-// A script with the frames of a capture, act by act.
-ghost use Rattle.std.specs.Prelude.{◌≡◌, ◌≤◌, ◌<◌, ◌+◌, ◌^◌, ◌&&◌, List, [], ℕ, length, IfOk};
-ghost use Rattle.std.specs.Prelude.{MatchOption, if◌then◌else◌};
+// The lines of a script, and how it ends.
+ghost use Rattle.std.specs.Prelude.{◌≡◌, ◌≤◌, ◌<◌, ◌+◌, ◌^◌, List, ℕ, true, IfOk, IfErr};
+ghost use Rattle.std.specs.Prelude.{IfSome, OnErr, OnOk};
+ghost use Rattle.ibos_kinds.specs.Limits.{Fits};
+ghost use Rattle.ibos_kinds.specs.Outside.{Rose};
+ghost use Rattle.ibos_kernel.specs.Standing.{Agrees, AreTogether, Stands};
+ghost use Rattle.ibos_model.specs.Journal.{Journal};
 ghost use Rattle.ibos_script.specs.Lines.{line_in};
-ghost use Rattle.ibos_text.specs.Lines.{lines_of};
-ghost use Rattle.ibos_run.specs.Readings.{Reading, is_last, reading_by, reading_from, reading_next, reading_of};
-ghost use Rattle.ibos_run.specs.Readings.{refused_by};
-ghost use Rattle.ibos_run.specs.Refusals.{too_long};
+ghost use Rattle.ibos_run.specs.Faults.{IsCaused};
+ghost use Rattle.ibos_run.specs.Readings.{Reading, reading_by, reading_next};
+ghost use Rattle.ibos_run.specs.Script.{IsOfScript, behind_end};
+ghost use Rattle.ibos_run.specs.Session.{IsCut, IsMade, Serves, Stops};
 
 use crate::capture::Frames;
-use ibos_kinds::{Act, Bytes, Memory};
-use ibos_script::{Line, LineFault, read_line};
-use ibos_text::next_line;
+use crate::fault::Fault;
+use crate::gather::hand_over_if_much;
+use ibos_kernel::Kernel;
+use ibos_kinds::{Act, Bytes, Outcome, Sink};
+use ibos_model::{
+    frames_are_fronts, frames_are_sent_in_turn, runs_go_on, sent_frames_are_fronts,
+    texts_are_fronts,
+};
+use ibos_nic::Nic;
+use ibos_script::{Line, LineFault, read_line, write_outcome};
 use std::alloc::Global;
-use std::marker::Model;
-
-/// The most that a script may have, in bytes.
-pub const MAX_SCRIPT_LEN: usize = 67_108_864;
 
 /// How a script ends: at its end, or at its first fault. Lines are counted from 1.
 #[derive(Clone, Copy)]
@@ -29,119 +36,140 @@ pub enum End {
     Refused { line: u32, fault: LineFault },
 }
 
-/// What a script asks for next.
-#[derive(Drop)]
-pub enum Next {
-    Act(Act),
-    End(End),
-}
-
-/// What is left of a script, and the frames that are left for it.
-#[derive(Drop)]
-pub struct Script<'a> {
-    rest: &'a [u8],
-    lines: u32,
-    passes: bool,
-    frames: Frames<'a>,
-}
-
-impl<'a> Model for Script<'a> {
-    ghost Value = { Reading };
-
-    ghost view = { λ s. reading_from s.passes (s.lines + 1) (lines_of s.rest.now) s.frames };
-
-    ghost invariant = { λ s. s.lines + length s.rest.now < 2 ^ 31 };
-}
-
-impl<'a> Script<'a> {
-    ghost use Rattle.ibos_run.specs.Script.{Leads};
-
-    /// The whole of a script, of which the bytes up to the limit and one more are given, with all
-    /// frames of its capture.
-    #[tactic(auto, unfolding(crate::specs::Readings::reading_of))]
-    pub fn new(text: &'a [u8], frames: Frames<'a>) -> Script<'a>
-        requires { length text.now ≤ MAX_SCRIPT_LEN + 1 }
-        ensures reading { result ≡ reading_of frames.entry text.now }
-        ensures few { length result.acts ≤ length text.now }
-    {
-        Script {
-            rest: text,
-            lines: 0,
-            passes: text.len() > MAX_SCRIPT_LEN,
-            frames,
-        }
-    }
-
-    /// Reads up to the next act, or to the end.
-    pub fn next(&mut self, alloc: Global) -> Result<Next, Memory>
-        ensures { IfOk result (λ next. Leads self.old next self.new) }
-    {
-        'lines: while let Some((line, after)) = next_line(self.rest) {
-            self.rest = after;
-            self.lines += 1;
-            let past = is_past(self.passes, after);
-            let found = find_next(alloc, line, self.lines, past, &mut self.frames)?;
-            if let Some(next) = found {
-                return Ok(next);
-            }
-        }
-        Ok(Next::End(End::Whole))
-    }
-}
-
-ghost use Rattle.ibos_run.specs.Script.{Leads};
-
-// Whether a line of a text that passes the limit, or doesn't, holds the byte after it: that is the
-// last.
-fn is_past(passes: bool, after: &[u8]) -> bool
-    ensures { result ≡ (passes && is_last (lines_of after.now)) }
-{
-    passes && after.is_empty()
-}
-
-// What a line of that number asks for, if anything, whatever the lines behind it give. `past` is
-// whether it holds the byte after the limit.
-fn find_next(
+/// Makes the act that a line of that number asks for, if any, with the frames that are left, or
+/// tells that the script ends there. `outcome` is room for what comes of the act.
+pub fn serve_line<N: Nic, K: Sink>(
     alloc: Global,
-    line: &[u8],
+    kernel: &mut Kernel,
     number: u32,
-    past: bool,
+    line: &[u8],
     frames: &mut Frames<'_>,
-) -> Result<Option<Next>, Memory>
-    ensures { IfOk result (λ found. (behind : List (List ℕ) → Reading) →
-        let read = (if past then refused_by (too_long number)
-        else reading_by number (line_in line.now) frames.old behind)
-        in MatchOption found (read ≡ behind frames.new)
-        (λ next. Leads read next (behind frames.new))) }
+    outcome: &mut Outcome,
+    nic: &mut N,
+    text: &mut Bytes,
+    sink: &mut K,
+) -> Result<Option<End>, Fault>
+    requires usable { kernel.old.usable ≡ true }
+    requires acts { kernel.old.acts < 2 ^ 31 }
+    requires device { AreTogether kernel.old (N.regs nic.old) (N.log nic.old) }
+    ensures served { IfOk result (λ end. (behind : List (List ℕ) → Reading) → Serves
+        (reading_by number (line_in line.now) frames.old behind)
+        (behind_end end (behind frames.new))
+        (K.taken sink.old) (K.taken sink.new) text.old text.new kernel.old kernel.new
+        (N.regs nic.old) (N.regs nic.new) (N.log nic.old) (N.log nic.new)) }
+    ensures stopped { OnErr result ((behind : List (List ℕ) → Reading) → Stops
+        (reading_by number (line_in line.now) frames.old behind)
+        (K.taken sink.old) (K.taken sink.new) text.old text.new kernel.old
+        (N.regs nic.old) (N.log nic.old) (N.log nic.new)) }
+    ensures of_script { IfOk result (λ end. IfSome end IsOfScript) }
+    ensures device { OnOk result (AreTogether kernel.new (N.regs nic.new) (N.log nic.new)) }
+    ensures usable { OnOk result (kernel.new.usable ≡ true) }
+    ensures acts { OnOk result (kernel.new.acts ≤ kernel.old.acts + 1) }
+    ensures later { K.faults sink.old ≤ K.faults sink.new }
+    ensures cause { IfErr result (λ fault.
+        IsCaused fault ⊥ (Rose (K.faults sink.old) (K.faults sink.new))) }
 {
-    if past {
-        return Ok(Some(Next::End(End::TooLong { line: number })));
-    }
-    match read_line(alloc, line) {
+    // Called for the laws that are their clauses.
+    runs_go_on();
+    texts_are_fronts();
+    frames_are_fronts();
+    sent_frames_are_fronts();
+    frames_are_sent_in_turn();
+    match &read_line(alloc, line) {
         Ok(None) => Ok(None),
-        Ok(Some(Line::Act(act))) => Ok(Some(Next::Act(act))),
-        Ok(Some(Line::NextFrame)) => {
-            let next = next_frame(alloc, number, frames)?;
-            Ok(Some(next))
+        Ok(Some(Line::Act(act))) => {
+            make_act(alloc, kernel, act, outcome, nic, text, sink)?;
+            Ok(None)
         }
-        Err(LineFault::Memory) => Err(Memory),
-        Err(fault) => Ok(Some(Next::End(End::Refused {
+        Ok(Some(Line::NextFrame)) => {
+            serve_frame(alloc, kernel, number, frames, outcome, nic, text, sink)
+        }
+        Err(LineFault::Memory) => Err(Fault::Memory),
+        Err(fault) => Ok(Some(End::Refused {
             line: number,
-            fault,
-        }))),
+            fault: *fault,
+        })),
     }
 }
 
 // The next frame comes from the wire.
-fn next_frame(alloc: Global, number: u32, frames: &mut Frames<'_>) -> Result<Next, Memory>
-    ensures { IfOk result (λ next. (behind : List (List ℕ) → Reading)
-        → Leads (reading_next number frames.old behind) next (behind frames.new)) }
+fn serve_frame<N: Nic, K: Sink>(
+    alloc: Global,
+    kernel: &mut Kernel,
+    number: u32,
+    frames: &mut Frames<'_>,
+    outcome: &mut Outcome,
+    nic: &mut N,
+    text: &mut Bytes,
+    sink: &mut K,
+) -> Result<Option<End>, Fault>
+    requires usable { kernel.old.usable ≡ true }
+    requires acts { kernel.old.acts < 2 ^ 31 }
+    requires device { AreTogether kernel.old (N.regs nic.old) (N.log nic.old) }
+    ensures served { IfOk result (λ end. (behind : List (List ℕ) → Reading) → Serves
+        (reading_next number frames.old behind) (behind_end end (behind frames.new))
+        (K.taken sink.old) (K.taken sink.new) text.old text.new kernel.old kernel.new
+        (N.regs nic.old) (N.regs nic.new) (N.log nic.old) (N.log nic.new)) }
+    ensures stopped { OnErr result ((behind : List (List ℕ) → Reading) → Stops
+        (reading_next number frames.old behind)
+        (K.taken sink.old) (K.taken sink.new) text.old text.new kernel.old
+        (N.regs nic.old) (N.log nic.old) (N.log nic.new)) }
+    ensures of_script { IfOk result (λ end. IfSome end IsOfScript) }
+    ensures device { OnOk result (AreTogether kernel.new (N.regs nic.new) (N.log nic.new)) }
+    ensures usable { OnOk result (kernel.new.usable ≡ true) }
+    ensures acts { OnOk result (kernel.new.acts ≤ kernel.old.acts + 1) }
+    ensures later { K.faults sink.old ≤ K.faults sink.new }
+    ensures cause { IfErr result (λ fault.
+        IsCaused fault ⊥ (Rose (K.faults sink.old) (K.faults sink.new))) }
 {
+    // Called for the laws that are their clauses.
+    runs_go_on();
+    texts_are_fronts();
+    frames_are_fronts();
+    sent_frames_are_fronts();
+    frames_are_sent_in_turn();
     match frames.next() {
         Some(frame) => {
             let frame = Bytes::from_slice(alloc, frame)?;
-            Ok(Next::Act(Act::WireIn { frame }))
+            let act = Act::WireIn { frame };
+            make_act(alloc, kernel, &act, outcome, nic, text, sink)?;
+            Ok(None)
         }
-        None => Ok(Next::End(End::NoFrame { line: number })),
+        None => Ok(Some(End::NoFrame { line: number })),
     }
+}
+
+// Makes one act.
+fn make_act<N: Nic, K: Sink>(
+    alloc: Global,
+    kernel: &mut Kernel,
+    act: &Act,
+    outcome: &mut Outcome,
+    nic: &mut N,
+    text: &mut Bytes,
+    sink: &mut K,
+) -> Result<(), Fault>
+    requires usable { kernel.old.usable ≡ true }
+    requires acts { kernel.old.acts < 2 ^ 31 }
+    requires fits { Fits act.now }
+    requires device { AreTogether kernel.old (N.regs nic.old) (N.log nic.old) }
+    ensures made { OnOk result ((J : Journal) → Stands J kernel.old
+        → Agrees kernel.old.hosts J (N.regs nic.old) (N.log nic.old)
+        → IsMade kernel.old.hosts J act.now (K.taken sink.old) (K.taken sink.new) text.old text.new
+        kernel.new (N.regs nic.new) (N.log nic.old) (N.log nic.new)) }
+    ensures cut { OnErr result ((J : Journal) → Stands J kernel.old
+        → Agrees kernel.old.hosts J (N.regs nic.old) (N.log nic.old)
+        → IsCut kernel.old.hosts J act.now (K.taken sink.old) (K.taken sink.new) text.old text.new
+        (N.log nic.old) (N.log nic.new)) }
+    ensures hosts { kernel.new.hosts ≡ kernel.old.hosts }
+    ensures usable { OnOk result (kernel.new.usable ≡ true) }
+    ensures acts { OnOk result (kernel.new.acts ≡ kernel.old.acts + 1) }
+    ensures later { K.faults sink.old ≤ K.faults sink.new }
+    ensures cause { IfErr result (λ fault.
+        IsCaused fault ⊥ (Rose (K.faults sink.old) (K.faults sink.new))) }
+{
+    kernel.step(alloc, act, nic, outcome)?;
+    write_outcome(alloc, u64::from(kernel.acts()), outcome, text)?;
+    hand_over_if_much(text, sink)?;
+    Ok(())
 }

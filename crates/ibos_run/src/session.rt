@@ -1,69 +1,72 @@
 // A session: the acts of a script, and the text that they bring.
-ghost use Rattle.std.specs.Prelude.{◌≡◌, ◌≤◌, ◌<◌, ◌+◌, ◌^◌, [], ◌++◌, true, length, IfOk};
-ghost use Rattle.std.specs.Prelude.{OnOk, OnErr, IfErr, string_bytes};
-ghost use Rattle.ibos_kinds.specs.Limits.{Fits};
+ghost use Rattle.std.specs.Prelude.{◌≡◌, ◌≤◌, ◌<◌, ◌⊎◌, [], ◌++◌, true, List, ℕ};
+ghost use Rattle.std.specs.Prelude.{OnOk, OnErr, IfErr, IfOk, IfSome};
 ghost use Rattle.ibos_kinds.specs.Outside.{Rose};
-ghost use Rattle.ibos_model.specs.Journal.{Journal};
-ghost use Rattle.ibos_model.specs.Logs.{written_in};
-ghost use Rattle.ibos_run.specs.Inputs.{Session, journal_of, last_line};
-ghost use Rattle.ibos_run.specs.Readings.{reading_of};
-ghost use Rattle.ibos_kernel.specs.Standing.{Agrees, AreTogether, Stands};
+ghost use Rattle.ibos_run.specs.Inputs.{last_line, script_with};
+ghost use Rattle.ibos_run.specs.Readings.{reading_of, script_in};
+ghost use Rattle.ibos_kernel.specs.Standing.{Agrees, Stands};
 ghost use Rattle.ibos_run.specs.Device.{IsReset};
-ghost use Rattle.ibos_run.specs.Faults.{IsCaused, ending};
+ghost use Rattle.ibos_run.specs.Faults.{IsCaused, ending, status_for};
 ghost use Rattle.ibos_run.specs.Script.{IsOfScript, refusal_of};
-ghost use Rattle.ibos_run.specs.Session.{IsBroken, IsCut, IsMade, IsServed, IsStopped, IsTold};
+ghost use Rattle.ibos_run.specs.Session.{IsBroken, IsOver, IsStopped, IsTold};
 
 use crate::capture::Frames;
 use crate::fault::{Fault, Status};
-use crate::gather::{hand_over, hand_over_if_much};
-use crate::script::{End, MAX_SCRIPT_LEN, Next, Script};
+use crate::gather::hand_over;
+use crate::script::{End, serve_line};
+use crate::source::Source;
 use crate::texts::{File, end_line, refusal};
 use ibos_kernel::Kernel;
-use ibos_kinds::{Act, Bytes, Memory, Outcome, Sink};
-use ibos_model::{
-    frames_are_fronts, frames_are_sent_in_turn, runs_go_on, sent_frames_are_fronts,
-    texts_are_fronts,
-};
+use ibos_kinds::{Bytes, Cabinet, Memory, Outcome, Sink};
+use ibos_model::{frames_are_fronts, sent_frames_are_fronts, texts_are_fronts};
 use ibos_nic::Nic;
 use ibos_origin::Hosts;
-use ibos_script::write_outcome;
 use std::alloc::Global;
 
-/// Runs a script with the frames of a capture, over a host table and a device at reset. What is
-/// gathered and not handed over stays in `text`.
-pub fn run_session<N: Nic, K: Sink>(
+/// Runs the script of that name with the frames of a capture, over a host table and a device at
+/// reset. What is gathered and not handed over stays in `text`.
+pub fn run_session<C: Cabinet, N: Nic, K: Sink>(
     alloc: Global,
     hosts: Hosts,
-    script: &[u8],
+    name: &Bytes,
     frames: Frames<'_>,
+    cabinet: &mut C,
     nic: &mut N,
     text: &mut Bytes,
     sink: &mut K,
 ) -> Result<Status, Fault>
-    requires within { length script.now ≤ MAX_SCRIPT_LEN + 1 }
     requires reset { IsReset (N.regs nic.old) (N.log nic.old) }
     requires empty { text.old ≡ [] }
-    ensures status { IfOk result (λ status. status ≡ ending (reading_of frames.entry script.now).refused) }
-    ensures told { OnOk result (IsTold (Session hosts (reading_of frames.entry script.now))
-        (K.taken sink.old) (K.taken sink.new) (N.regs nic.new) (N.log nic.new)) }
-    ensures broken { OnErr result (IsBroken (Session hosts (reading_of frames.entry script.now))
-        (K.taken sink.old) (K.taken sink.new) text.new (N.log nic.new)) }
+    ensures status { IfOk result (λ status.
+        IfSome (script_with hosts frames.entry (C.holds cabinet.old name.now)) (λ i.
+        status ≡ status_for i)) }
+    ensures told { OnOk result (
+        IfSome (script_with hosts frames.entry (C.holds cabinet.old name.now)) (λ i.
+        IsTold i (K.taken sink.old) (K.taken sink.new) (N.regs nic.new) (N.log nic.new))) }
+    ensures broken { OnErr result (
+        IfSome (script_with hosts frames.entry (C.holds cabinet.old name.now)) (λ i.
+        IsBroken i (K.taken sink.old) (K.taken sink.new) text.new (N.log nic.new))) }
+    ensures ends { IfOk result (λ status. (status ≡ Status.Done) ⊎ (status ≡ Status.Refused)) }
+    ensures holds { (name : List ℕ) → C.holds cabinet.new name ≡ C.holds cabinet.old name }
+    ensures files_later { (name : List ℕ) → C.faults cabinet.old name ≤ C.faults cabinet.new name }
     ensures later { K.faults sink.old ≤ K.faults sink.new }
-    ensures cause { IfErr result (λ fault.
-        IsCaused fault ⊥ (Rose (K.faults sink.old) (K.faults sink.new))) }
+    ensures cause { IfErr result (λ fault. IsCaused fault
+        (Rose (C.faults cabinet.old name.now) (C.faults cabinet.new name.now))
+        (Rose (K.faults sink.old) (K.faults sink.new))) }
 {
     let mut kernel = Kernel::new(alloc, hosts, nic)?;
-    let mut script = Script::new(script, frames);
-    let ended = run_script(alloc, &mut kernel, &mut script, nic, text, sink);
+    let ended = run_script(alloc, &mut kernel, name, frames, cabinet, nic, text, sink);
     kernel.close();
     ended
 }
 
 // The same, by a kernel that has made no act.
-fn run_script<N: Nic, K: Sink>(
+fn run_script<C: Cabinet, N: Nic, K: Sink>(
     alloc: Global,
     kernel: &mut Kernel,
-    script: &mut Script<'_>,
+    name: &Bytes,
+    frames: Frames<'_>,
+    cabinet: &mut C,
     nic: &mut N,
     text: &mut Bytes,
     sink: &mut K,
@@ -72,28 +75,38 @@ fn run_script<N: Nic, K: Sink>(
     requires agrees { Agrees kernel.old.hosts [] (N.regs nic.old) (N.log nic.old) }
     requires log { N.log nic.old ≡ [] }
     requires usable { kernel.old.usable ≡ true }
-    requires few { kernel.old.acts + length script.old.acts < 2 ^ 31 }
+    requires acts { kernel.old.acts ≡ 0 }
     requires empty { text.old ≡ [] }
-    ensures status { IfOk result (λ status. status ≡ ending script.old.refused) }
-    ensures told { OnOk result (IsTold (Session kernel.old.hosts script.old) (K.taken sink.old)
-        (K.taken sink.new) (N.regs nic.new) (N.log nic.new)) }
-    ensures broken { OnErr result (IsBroken (Session kernel.old.hosts script.old)
-        (K.taken sink.old) (K.taken sink.new) text.new (N.log nic.new)) }
+    ensures status { IfOk result (λ status.
+        IfSome (script_with kernel.old.hosts frames.entry (C.holds cabinet.old name.now)) (λ i.
+        status ≡ status_for i)) }
+    ensures told { OnOk result (
+        IfSome (script_with kernel.old.hosts frames.entry (C.holds cabinet.old name.now)) (λ i.
+        IsTold i (K.taken sink.old) (K.taken sink.new) (N.regs nic.new) (N.log nic.new))) }
+    ensures broken { OnErr result (
+        IfSome (script_with kernel.old.hosts frames.entry (C.holds cabinet.old name.now)) (λ i.
+        IsBroken i (K.taken sink.old) (K.taken sink.new) text.new (N.log nic.new))) }
+    ensures ends { IfOk result (λ status. (status ≡ Status.Done) ⊎ (status ≡ Status.Refused)) }
+    ensures holds { (name : List ℕ) → C.holds cabinet.new name ≡ C.holds cabinet.old name }
+    ensures files_later { (name : List ℕ) → C.faults cabinet.old name ≤ C.faults cabinet.new name }
     ensures later { K.faults sink.old ≤ K.faults sink.new }
-    ensures cause { IfErr result (λ fault.
-        IsCaused fault ⊥ (Rose (K.faults sink.old) (K.faults sink.new))) }
+    ensures cause { IfErr result (λ fault. IsCaused fault
+        (Rose (C.faults cabinet.old name.now) (C.faults cabinet.new name.now))
+        (Rose (K.faults sink.old) (K.faults sink.new))) }
 {
-    let end = make_acts(alloc, kernel, script, nic, text, sink)?;
+    let end = make_acts(alloc, kernel, name, frames, cabinet, nic, text, sink)?;
     let status = push_last(alloc, kernel.acts(), end, text)?;
     hand_over(text, sink)?;
     Ok(status)
 }
 
-// Makes the acts that are left, from a kernel that has made none.
-fn make_acts<N: Nic, K: Sink>(
+// Makes the acts of the script, by a kernel that has made none.
+fn make_acts<C: Cabinet, N: Nic, K: Sink>(
     alloc: Global,
     kernel: &mut Kernel,
-    script: &mut Script<'_>,
+    name: &Bytes,
+    frames: Frames<'_>,
+    cabinet: &mut C,
     nic: &mut N,
     text: &mut Bytes,
     sink: &mut K,
@@ -102,70 +115,54 @@ fn make_acts<N: Nic, K: Sink>(
     requires agrees { Agrees kernel.old.hosts [] (N.regs nic.old) (N.log nic.old) }
     requires log { N.log nic.old ≡ [] }
     requires usable { kernel.old.usable ≡ true }
-    requires few { kernel.old.acts + length script.old.acts < 2 ^ 31 }
+    requires acts { kernel.old.acts ≡ 0 }
     requires empty { text.old ≡ [] }
-    ensures end { IfOk result (λ end. refusal_of end ≡ script.old.refused) }
+    ensures over { IfOk result (λ end. IfSome (C.holds cabinet.old name.now) (λ file.
+        IsOver kernel.old.hosts (reading_of frames.entry (script_in file)) (K.taken sink.old)
+        (K.taken sink.new) text.new (N.regs nic.new) (N.log nic.new) kernel.new.acts
+        (refusal_of end))) }
     ensures of_script { IfOk result IsOfScript }
-    ensures served { OnOk result (IsServed kernel.old.hosts script.old (K.taken sink.old)
-        (K.taken sink.new) text.new (N.regs nic.new) (N.log nic.new)) }
-    ensures acts { OnOk result (kernel.new.acts
-        ≡ length (journal_of kernel.old.hosts script.old (written_in (N.log nic.new)))) }
-    ensures stopped { OnErr result (IsStopped kernel.old.hosts script.old (K.taken sink.old)
-        (K.taken sink.new) text.new (N.log nic.new)) }
+    ensures stopped { OnErr result (IfSome (C.holds cabinet.old name.now) (λ file.
+        IsStopped kernel.old.hosts (reading_of frames.entry (script_in file)) (K.taken sink.old)
+        (K.taken sink.new) text.new (N.log nic.new))) }
+    ensures holds { (name : List ℕ) → C.holds cabinet.new name ≡ C.holds cabinet.old name }
+    ensures files_later { (name : List ℕ) → C.faults cabinet.old name ≤ C.faults cabinet.new name }
     ensures later { K.faults sink.old ≤ K.faults sink.new }
-    ensures cause { IfErr result (λ fault.
-        IsCaused fault ⊥ (Rose (K.faults sink.old) (K.faults sink.new))) }
+    ensures cause { IfErr result (λ fault. IsCaused fault
+        (Rose (C.faults cabinet.old name.now) (C.faults cabinet.new name.now))
+        (Rose (K.faults sink.old) (K.faults sink.new))) }
 {
     // Called for the laws that are their clauses.
-    runs_go_on();
     texts_are_fronts();
     frames_are_fronts();
     sent_frames_are_fronts();
-    frames_are_sent_in_turn();
+    let mut source = Source::new(alloc)?;
+    let mut frames = frames;
     let mut outcome = Outcome::new(alloc);
-    'acts: loop {
-        match script.next(alloc)? {
-            Next::Act(act) => make_act(alloc, kernel, act, &mut outcome, nic, text, sink)?,
-            Next::End(end) => return Ok(end),
+    let mut lines = 0;
+    'lines: while let Some(len) = source.find_line(cabinet, name)? {
+        lines += 1;
+        if source.is_past(len) {
+            return Ok(End::TooLong { line: lines });
         }
+        let line = source.line(len);
+        let served = serve_line(
+            alloc,
+            kernel,
+            lines,
+            line,
+            &mut frames,
+            &mut outcome,
+            nic,
+            text,
+            sink,
+        )?;
+        if let Some(end) = served {
+            return Ok(end);
+        }
+        source.pass(len);
     }
-}
-
-// Makes one act. `outcome` is room for what comes of it.
-fn make_act<N: Nic, K: Sink>(
-    alloc: Global,
-    kernel: &mut Kernel,
-    act: Act,
-    outcome: &mut Outcome,
-    nic: &mut N,
-    text: &mut Bytes,
-    sink: &mut K,
-) -> Result<(), Fault>
-    requires usable { kernel.old.usable ≡ true }
-    requires acts { kernel.old.acts < 2 ^ 31 }
-    requires fits { Fits act }
-    requires device { AreTogether kernel.old (N.regs nic.old) (N.log nic.old) }
-    ensures made { OnOk result ((J : Journal) → Stands J kernel.old
-        → Agrees kernel.old.hosts J (N.regs nic.old) (N.log nic.old)
-        → IsMade kernel.old.hosts J act (K.taken sink.old) (K.taken sink.new) text.old text.new
-        kernel.new (N.regs nic.new) (N.log nic.old) (N.log nic.new)) }
-    ensures cut { OnErr result ((J : Journal) → Stands J kernel.old
-        → Agrees kernel.old.hosts J (N.regs nic.old) (N.log nic.old)
-        → IsCut kernel.old.hosts J act (K.taken sink.old) (K.taken sink.new) text.old text.new
-        (N.log nic.old) (N.log nic.new)) }
-    ensures hosts { kernel.new.hosts ≡ kernel.old.hosts }
-    ensures usable { OnOk result (kernel.new.usable ≡ true) }
-    ensures acts { OnOk result (kernel.new.acts ≡ kernel.old.acts + 1) }
-    ensures later { K.faults sink.old ≤ K.faults sink.new }
-    ensures cause { IfErr result (λ fault.
-        IsCaused fault ⊥ (Rose (K.faults sink.old) (K.faults sink.new))) }
-{
-    let stepped = kernel.step(alloc, &act, nic, outcome);
-    drop(act);
-    stepped?;
-    write_outcome(alloc, u64::from(kernel.acts()), outcome, text)?;
-    hand_over_if_much(text, sink)?;
-    Ok(())
+    Ok(End::Whole)
 }
 
 // Gathers the last line, after so many acts.

@@ -14,8 +14,8 @@ use Rattle.ibos_run.proofs.run_words.gather_capture.Goals as goal
 
 pub returns-in_default-clause-cause : goal.returns-in_default-clause-cause
 returns-in_default-clause-cause g c =
-    let Q : List ℕ → Type 0 = λ name. Rose (g.C.Cabinet.faults c.args.cabinet.now name) (g.C.Cabinet.faults c.gather_script.new.cabinet name) in
-    if_caused c.gather_script.result _ _ _ _ (λ rose. of_script Q (option_copied c.args.capture) c.args.script.now (ap option_copied c.in_default.is) rose) (λ rose. rose) c.gather_script.ensures.cause
+    let Q : List ℕ → Type 0 = λ name. Rose (g.C.Cabinet.faults c.args.cabinet.now name) (g.C.Cabinet.faults c.run_session.new.cabinet name) in
+    if_caused c.run_session.result _ _ _ _ (λ rose. of_script Q (option_copied c.args.capture) c.args.script.now (ap option_copied c.in_default.is) rose) (λ rose. rose) c.run_session.ensures.cause
 
 pub returns-in_err-capture-clause-broken : goal.returns-in_err-capture-clause-broken
 returns-in_err-capture-clause-broken g c = on_err _ _ (untouched_if _ _ _ _ c.requires.empty c.requires.reset.log)
@@ -28,10 +28,10 @@ returns-in_err-capture-clause-cause g c =
 
 pub returns-in-Ok-clause-cause : goal.returns-in-Ok-clause-cause
 returns-in-Ok-clause-cause g c =
-    let Q : List ℕ → Type 0 = λ name. Rose (g.C.Cabinet.faults c.args.cabinet.now name) (g.C.Cabinet.faults c.gather_script-in-Ok.new.cabinet name) in
-    if_caused c.gather_script-in-Ok.result _ _ _ _
+    let Q : List ℕ → Type 0 = λ name. Rose (g.C.Cabinet.faults c.args.cabinet.now name) (g.C.Cabinet.faults c.run_session-in-Ok.new.cabinet name) in
+    if_caused c.run_session-in-Ok.result _ _ _ _
     (λ rose. behind_capture Q (option_copied c.args.capture) c.in-Some.name.now c.args.script.now (ap option_copied c.in-Some.is) (rose_since _ _ _ (c.in_ok-capture.ensures.later c.args.script.now) rose))
-    (λ rose. rose) c.gather_script-in-Ok.ensures.cause
+    (λ rose. rose) c.run_session-in-Ok.ensures.cause
 
 pub returns-in_err-status-in-Err-At-clause-broken : goal.returns-in_err-status-in-Err-At-clause-broken
 returns-in_err-status-in-Err-At-clause-broken g c =
