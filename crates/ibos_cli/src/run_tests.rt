@@ -71,20 +71,23 @@ fn run_new<N: Nic>(
     run(rt.alloc(), words, cabinet, nic, sink)
 }
 
+// What the acts alone print.
+const MADE: &[u8] = b"1 denied U2 TabClosed\n2 denied U2 TabClosed\n";
+
 // A call of that number isn't reached.
 const NEVER: u32 = 1_000_000;
 
 #[test]
 fn a_failed_call_ends_the_run(rt: HostRuntime) -> Result<(), Fail> {
     let alloc = rt.alloc();
-    // By whole files the table is read by two calls, and so is the script. A text of five bytes a
-    // write has a front that ends within a line.
+    // By whole files the table is read by two calls, and so is the script, whose acts are made
+    // before the second. A text of five bytes a write has a front that ends within a line.
     for (read, read_most, write, write_most, status, text) in [
         (NEVER, 1u32, NEVER, 1u32, Status::Done, TEXT),
         (0, 9999, NEVER, 9999, Status::ReadFault, b"".as_slice()),
         (1, 9999, NEVER, 9999, Status::ReadFault, b""),
         (2, 9999, NEVER, 9999, Status::ReadFault, b""),
-        (3, 9999, NEVER, 9999, Status::ReadFault, b""),
+        (3, 9999, NEVER, 9999, Status::ReadFault, MADE),
         (NEVER, 9999, 0, 9999, Status::WriteFault, b""),
         (NEVER, 9999, 2, 5, Status::WriteFault, b"1 denied U"),
     ] {
