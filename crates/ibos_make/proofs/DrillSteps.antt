@@ -1,5 +1,5 @@
 -- A drill goes on act by act, and stays within its rounds.
-use Rattle.std.proofs.Common.{◌≡◌, ◌≢◌, ℕ, zero, suc, ◌+◌, ◌-◌, ◌*◌, ◌^◌, ◌<◌, ◌≤◌, ◌==◌, Bool, true, false, List, [], ◌∷◌, ◌++◌, length, drop, Some, None, slice_get, slice_index, replicate, refl, ap, sym, subst, ◌∙◌, arith}
+use Rattle.std.proofs.Common.{◌≡◌, ◌≢◌, ℕ, zero, suc, ◌+◌, ◌-◌, ◌*◌, ◌^◌, ◌<◌, ◌≤◌, ◌==◌, Bool, true, false, List, [], ◌∷◌, ◌++◌, length, drop, Option, Some, None, Result, Ok, Err, IfOk, IfSome, IsSome, ◌↔◌, slice_get, slice_index, replicate, refl, ap, sym, subst, ◌∙◌, arith}
 use Rattle.std.proofs.Math.Seq.{drop-nil}
 use Rattle.std.proofs.lemmas.List.{drop-append-le, drop_all, length-append}
 use Rattle.std.proofs.lemmas.Option.{slice_get_within}
@@ -157,6 +157,24 @@ left-none d over none =
 -- where an act comes, neither is there none nor was none left
 pub some-comes : (act : Act) (before after : List Act) → before ≡ act ∷ after → (Some act ≡ None → before ≡ []) × (before ≡ [] → Some act ≡ None)
 some-comes act before after h = (λ none. cc, λ none. cc)
+
+-- what was made is the act that comes, if there was memory for it
+pub made-next : {E : Type 0} (made : Result (Option Act) E) (acts : List Act) (place : ℕ) (whole rest : List Act)
+    → IfOk made (λ m. slice_get acts place ≡ m) → ((act : Act) → slice_get acts place ≡ Some act → whole ≡ act ∷ rest)
+    → IfOk made (λ next. IfSome next (λ act. whole ≡ act ∷ rest))
+made-next (Ok (Some act)) acts place whole rest at goes = goes act at
+made-next (Ok None) acts place whole rest at goes = tt
+made-next (Err e) acts place whole rest at goes = tt
+
+pub made-comes : {E : Type 0} (made : Result (Option Act) E) (acts : List Act) (place : ℕ) (whole rest : List Act)
+    → IfOk made (λ m. slice_get acts place ≡ m) → IfOk made (λ m. IsSome m) → ((act : Act) → slice_get acts place ≡ Some act → whole ≡ act ∷ rest)
+    → IfOk made (λ next. next ≡ None ↔ whole ≡ [])
+made-comes (Ok (Some act)) acts place whole rest at some goes = some-comes act whole rest (goes act at)
+made-comes (Ok None) acts place whole rest at some goes = absurd (no_some some)
+  where
+    no_some : IsSome {T = Act} None → ⊥
+    no_some p = cc
+made-comes (Err e) acts place whole rest at some goes = tt
 
 -- ROOM
 

@@ -94,9 +94,11 @@ impl Drill {
         if self.rounds == 0 {
             return Ok(None);
         }
-        let act = round_act(alloc, self.counts.round(), &self.counts, self.place)?;
-        self.go_on();
-        Ok(Some(act))
+        let made = round_act(alloc, self.counts.round(), &self.counts, self.place);
+        if made.is_ok() {
+            self.go_on();
+        }
+        made
     }
 
     // One more act of a round came.

@@ -19,6 +19,9 @@ const POSTS: u8 = 64;
 
 const TABS: u8 = 8;
 
+// How long the origin of a tab's page is, in bytes.
+const ORIGIN_LEN: usize = 17;
+
 // The offsets of the driver's registers.
 const RCTL: u32 = 0x0100;
 
@@ -132,7 +135,9 @@ pub fn origin(alloc: Global, tab: u8) -> Result<Bytes, Memory>
     ensures { IfOk result (λ text. text ≡ drill_origin tab) }
 {
     let mut digits = Buffer::new();
-    let mut text = Bytes::from_slice(alloc, b"http://h")?;
+    let mut text = Bytes::new(alloc);
+    text.reserve(ORIGIN_LEN)?;
+    text.push_slice(b"http://h")?;
     text.push_slice(digits.format(tab).as_bytes())?;
     text.push_slice(b".example")?;
     Ok(text)

@@ -1,5 +1,5 @@
 // The rounds of a drill.
-ghost use Rattle.std.specs.Prelude.{◌≡◌, ◌+◌, ◌^◌, ◌<◌, ◌∷◌, [], Some, IfOk, slice_get};
+ghost use Rattle.std.specs.Prelude.{◌≡◌, ◌+◌, ◌^◌, ◌<◌, ◌∷◌, [], Some, IfOk, IfSome, IsSome, slice_get};
 ghost use Rattle.std.specs.Prelude.{slice_index};
 ghost use Rattle.hex.specs.Hex.{encode_lower};
 ghost use Rattle.ibos_kinds.specs.Limits.{Fits};
@@ -181,15 +181,22 @@ pub fn round_len(kind: Kind) -> u8
     }
 }
 
-/// An act of a round, from the counts before it.
-pub fn round_act(alloc: Global, round: Round, counts: &Counts, place: u8) -> Result<Act, Memory>
+/// An act of a round, from the counts before it. It is made where the caller wants it, so that it is
+/// never moved: each of these functions answers as `Drill::next` does.
+pub fn round_act(
+    alloc: Global,
+    round: Round,
+    counts: &Counts,
+    place: u8,
+) -> Result<Option<Act>, Memory>
     requires tab { round.tab < 8 }
     requires place { place < spec.round_len round.kind }
     requires versions { slice_index counts.now.versions
         (spec.version_place round.tab round.byte) + 1 < 2 ^ 32 }
-    ensures act { IfOk result (λ act.
-        slice_get (acts_of round.kind round.tab round.byte counts.now) place ≡ Some act) }
-    ensures fits { IfOk result Fits }
+    ensures act { IfOk result (λ made.
+        slice_get (acts_of round.kind round.tab round.byte counts.now) place ≡ made) }
+    ensures some { IfOk result IsSome }
+    ensures fits { IfOk result (λ made. IfSome made Fits) }
 {
     let Round { kind, tab, byte } = round;
     match kind {
@@ -206,11 +213,18 @@ pub fn round_act(alloc: Global, round: Round, counts: &Counts, place: u8) -> Res
 }
 
 // A frame comes and is told; its buffer is posted and rung again, and the page is done with it.
-fn receive_act(alloc: Global, tab: u8, byte: u8, received: u32, place: u8) -> Result<Act, Memory>
+fn receive_act(
+    alloc: Global,
+    tab: u8,
+    byte: u8,
+    received: u32,
+    place: u8,
+) -> Result<Option<Act>, Memory>
     requires tab { tab < 8 }
     requires place { place < 5 }
-    ensures act { IfOk result (λ act. slice_get (receive_acts tab byte received) place ≡ Some act) }
-    ensures fits { IfOk result Fits }
+    ensures act { IfOk result (λ made. slice_get (receive_acts tab byte received) place ≡ made) }
+    ensures some { IfOk result IsSome }
+    ensures fits { IfOk result (λ made. IfSome made Fits) }
 {
     let act = match place {
         0 => Act::WireIn {
@@ -225,7 +239,7 @@ fn receive_act(alloc: Global, tab: u8, byte: u8, received: u32, place: u8) -> Re
         4 => Act::Done { who: first_of(tab) },
         _ => unreachable!(),
     };
-    Ok(act)
+    Ok(Some(act))
 }
 
 // The buffer of a frame is posted where the ring goes on. Each round trip of a buffer is one more
@@ -244,11 +258,12 @@ fn post_again(received: u32) -> Act
 }
 
 // A frame is written, accepted, posted, rung and sent, and its buffer comes back.
-fn send_act(alloc: Global, tab: u8, byte: u8, sent: u32, place: u8) -> Result<Act, Memory>
+fn send_act(alloc: Global, tab: u8, byte: u8, sent: u32, place: u8) -> Result<Option<Act>, Memory>
     requires tab { tab < 8 }
     requires place { place < 6 }
-    ensures act { IfOk result (λ act. slice_get (send_acts tab byte sent) place ≡ Some act) }
-    ensures fits { IfOk result Fits }
+    ensures act { IfOk result (λ made. slice_get (send_acts tab byte sent) place ≡ made) }
+    ensures some { IfOk result IsSome }
+    ensures fits { IfOk result (λ made. IfSome made Fits) }
 {
     let who = first_of(tab);
     let act = match place {
@@ -275,15 +290,16 @@ fn send_act(alloc: Global, tab: u8, byte: u8, sent: u32, place: u8) -> Result<Ac
         5 => Act::TxBell,
         _ => unreachable!(),
     };
-    Ok(act)
+    Ok(Some(act))
 }
 
 // A cookie is set and read.
-fn cookie_act(alloc: Global, tab: u8, byte: u8, place: u8) -> Result<Act, Memory>
+fn cookie_act(alloc: Global, tab: u8, byte: u8, place: u8) -> Result<Option<Act>, Memory>
     requires tab { tab < 8 }
     requires place { place < 2 }
-    ensures act { IfOk result (λ act. slice_get (cookie_acts tab byte) place ≡ Some act) }
-    ensures fits { IfOk result Fits }
+    ensures act { IfOk result (λ made. slice_get (cookie_acts tab byte) place ≡ made) }
+    ensures some { IfOk result IsSome }
+    ensures fits { IfOk result (λ made. IfSome made Fits) }
 {
     let who = first_of(tab);
     let act = match place {
@@ -298,7 +314,7 @@ fn cookie_act(alloc: Global, tab: u8, byte: u8, place: u8) -> Result<Act, Memory
         },
         _ => unreachable!(),
     };
-    Ok(act)
+    Ok(Some(act))
 }
 
 // An object is stored and asked for. An answer in the name of another origin is refused, and one in
@@ -310,12 +326,13 @@ fn object_act(
     request: u32,
     version: u32,
     place: u8,
-) -> Result<Act, Memory>
+) -> Result<Option<Act>, Memory>
     requires tab { tab < 8 }
     requires place { place < 4 }
-    ensures act { IfOk result (λ act.
-        slice_get (object_acts tab byte request version) place ≡ Some act) }
-    ensures fits { IfOk result Fits }
+    ensures act { IfOk result (λ made.
+        slice_get (object_acts tab byte request version) place ≡ made) }
+    ensures some { IfOk result IsSome }
+    ensures fits { IfOk result (λ made. IfSome made Fits) }
 {
     let who = first_of(tab);
     let key = key_name(alloc, byte)?;
@@ -342,15 +359,16 @@ fn object_act(
         },
         _ => unreachable!(),
     };
-    Ok(act)
+    Ok(Some(act))
 }
 
 // A tab is switched to, and a key pressed there; the page draws the key's byte.
-fn screen_act(alloc: Global, tab: u8, byte: u8, place: u8) -> Result<Act, Memory>
+fn screen_act(alloc: Global, tab: u8, byte: u8, place: u8) -> Result<Option<Act>, Memory>
     requires tab { tab < 8 }
     requires place { place < 3 }
-    ensures act { IfOk result (λ act. slice_get (screen_acts tab byte) place ≡ Some act) }
-    ensures fits { IfOk result Fits }
+    ensures act { IfOk result (λ made. slice_get (screen_acts tab byte) place ≡ made) }
+    ensures some { IfOk result IsSome }
+    ensures fits { IfOk result (λ made. IfSome made Fits) }
 {
     let drawn = b' ' + byte % 95;
     let act = match place {
@@ -368,7 +386,7 @@ fn screen_act(alloc: Global, tab: u8, byte: u8, place: u8) -> Result<Act, Memory
         },
         _ => unreachable!(),
     };
-    Ok(act)
+    Ok(Some(act))
 }
 
 // A frame from the tab's host to its page.

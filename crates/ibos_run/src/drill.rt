@@ -87,11 +87,13 @@ fn make_drill<N: Nic>(
     frames_are_sent_in_turn();
     let mut outcome = Outcome::new(alloc);
     let mut tally = Tally::new();
-    'acts: while let Some(act) = drill.next(alloc)? {
-        let stepped = kernel.step(alloc, &act, nic, &mut outcome);
-        drop(act);
-        stepped?;
+    'acts: loop {
+        // Lent as it was made: an act is large, and moving it costs more than many a step.
+        match &drill.next(alloc) {
+            Ok(Some(act)) => kernel.step(alloc, act, nic, &mut outcome)?,
+            Ok(None) => return Ok(tally),
+            Err(Memory) => return Err(Memory),
+        }
         tally.count(&outcome);
     }
-    Ok(tally)
 }
