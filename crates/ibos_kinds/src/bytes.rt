@@ -1,6 +1,7 @@
 // Bytes that contracts see as a list, and the answer of a call that is out of memory.
 ghost use Rattle.std.specs.Prelude.{◌≡◌, ◌++◌, ◌==◌, [], length, IfOk, OnOk, OnErr};
 
+use arrayvec::ArrayVec;
 use std::alloc::{AllocError, AllocFailed, Global};
 use std::marker::Model;
 
@@ -36,22 +37,34 @@ impl<T: Drop> From<AllocFailed<T>> for Memory {
 /// ```
 #[derive(Debug, Drop)]
 pub struct Bytes {
-    inner: Vec<u8>,
+    kept: Kept,
+}
+
+// So many bytes lie in the value itself, since most texts of an act are no longer.
+const SHORT: usize = 24;
+
+#[derive(Debug, Drop)]
+enum Kept {
+    Short(Global, ArrayVec<u8, SHORT>),
+    Long(Vec<u8>),
 }
 
 impl Model for Bytes {
     ghost use Rattle.std.specs.Prelude.{List, ℕ};
+    ghost use Rattle.ibos_kinds.specs.Kept.{kept_bytes};
 
     ghost Value = { List ℕ };
 
-    ghost view = { λ b. b.inner.items };
+    ghost view = { λ b. kept_bytes b.kept };
 }
 
 impl From<Vec<u8>> for Bytes {
     ghost from_gives = { λ vec bytes. bytes ≡ vec.items };
 
     fn from(inner: Vec<u8>) -> Self {
-        Bytes { inner }
+        Bytes {
+            kept: Kept::Long(inner),
+        }
     }
 }
 
@@ -80,7 +93,7 @@ impl Bytes {
         ensures { result ≡ [] }
     {
         Bytes {
-            inner: Vec::new(alloc),
+            kept: Kept::Short(alloc, ArrayVec::new()),
         }
     }
 
@@ -88,54 +101,105 @@ impl Bytes {
     pub fn from_slice(alloc: Global, bytes: &[u8]) -> Result<Bytes, Memory>
         ensures { IfOk result (λ made. made ≡ bytes.now) }
     {
-        let mut made = Bytes::new(alloc);
-        made.push_slice(bytes)?;
-        Ok(made)
+        let mut short = ArrayVec::new();
+        if short.try_extend_from_slice(bytes).is_ok() {
+            return Ok(Bytes {
+                kept: Kept::Short(alloc, short),
+            });
+        }
+        let long = Vec::from_slice(alloc, bytes)?;
+        Ok(Bytes::from(long))
     }
 
     /// The bytes, lent.
     pub fn as_slice(&self) -> &[u8]
         ensures { result.now ≡ self.now }
     {
-        self.inner.as_slice()
+        match &self.kept {
+            Kept::Short(_, short) => short.as_slice(),
+            Kept::Long(long) => long.as_slice(),
+        }
     }
 
     /// How many bytes there are.
     pub fn len(&self) -> usize
         ensures { result ≡ length self.now }
     {
-        self.inner.len()
+        self.as_slice().len()
     }
 
     /// Whether there are none.
     pub fn is_empty(&self) -> bool
         ensures { result ≡ (length self.now == 0) }
     {
-        self.inner.is_empty()
+        self.as_slice().is_empty()
     }
 
     /// Drops all bytes, and keeps the room that they had.
     pub fn clear(&mut self)
         ensures { self.new ≡ [] }
     {
-        self.inner.clear();
+        match &mut self.kept {
+            Kept::Short(_, short) => short.clear(),
+            Kept::Long(long) => long.clear(),
+        }
     }
 
     /// Makes room for that many more bytes, so that appending them takes no memory.
     pub fn reserve(&mut self, more: usize) -> Result<(), Memory>
         ensures { self.new ≡ self.old }
     {
-        self.inner.reserve(more)?;
-        Ok(())
+        match &mut self.kept {
+            Kept::Long(long) => {
+                long.reserve(more)?;
+                Ok(())
+            }
+            Kept::Short(alloc, short) => {
+                if short.remaining_capacity() >= more {
+                    return Ok(());
+                }
+                let mut long = Vec::from_slice(*alloc, short.as_slice())?;
+                long.reserve(more)?;
+                self.kept = Kept::Long(long);
+                Ok(())
+            }
+        }
     }
 
     /// Appends bytes.
+    #[inline(always)]
     pub fn push_slice(&mut self, bytes: &[u8]) -> Result<(), Memory>
         ensures ok { OnOk result (self.new ≡ self.old ++ bytes.now) }
         ensures err { OnErr result (self.new ≡ self.old) }
     {
-        self.inner.extend_from_slice(bytes)?;
-        Ok(())
+        if let Kept::Long(long) = &mut self.kept {
+            long.extend_from_slice(bytes)?;
+            return Ok(());
+        }
+        self.push_outside(bytes)
+    }
+
+    // Most pieces are written to long texts, so the other way is no part of their loop.
+    #[inline(never)]
+    fn push_outside(&mut self, bytes: &[u8]) -> Result<(), Memory>
+        ensures ok { OnOk result (self.new ≡ self.old ++ bytes.now) }
+        ensures err { OnErr result (self.new ≡ self.old) }
+    {
+        match &mut self.kept {
+            Kept::Short(alloc, short) => {
+                if short.try_extend_from_slice(bytes).is_ok() {
+                    return Ok(());
+                }
+                let mut long = Vec::from_slice(*alloc, short.as_slice())?;
+                long.extend_from_slice(bytes)?;
+                self.kept = Kept::Long(long);
+                Ok(())
+            }
+            Kept::Long(long) => {
+                long.extend_from_slice(bytes)?;
+                Ok(())
+            }
+        }
     }
 
     /// A vector of its own with the same bytes.
