@@ -1,9 +1,9 @@
 -- Texts that were cut short.
-use Rattle.std.proofs.Common.{◌≡◌, ℕ, ◌<◌, List, ◌++◌, length, take, drop, get_or, suc, sym, ap, subst, ◌∙◌, append_assoc, drop-cons}
+use Rattle.std.proofs.Common.{◌≡◌, ℕ, Result, Ok, Err, ◌<◌, List, ◌++◌, length, take, drop, get_or, suc, sym, ap, subst, ◌∙◌, append_assoc, drop-cons}
 use Rattle.std.proofs.lemmas.List.{take-append-drop}
 use Rattle.std.proofs.lemmas.List.Concat.{flat_map-append}
 use Rattle.std.specs.List.{flat_map}
-use Rattle.ibos_outcome.specs.Printed.{IsCutShort}
+use Rattle.ibos_outcome.specs.Printed.{IsCutShort, Appends}
 
 -- the first of two texts was cut short
 pub IsCutShort-first : (old new first second : List ℕ) → IsCutShort old new first → IsCutShort old new (first ++ second)
@@ -22,6 +22,18 @@ IsCutShort-second old between new first second e cut = record {
   written = cut.written ∙ ap (λ text. text ++ cut.front) e ∙ append_assoc old first cut.front;
   whole = append_assoc first cut.front cut.rest ∙ ap (λ text. first ++ text) cut.whole;
 }
+
+-- what appends the second text after the first appends both
+pub Appends-second : {T E : Type 0} (result : Result T E) (old between new first second : List ℕ) → between ≡ old ++ first → Appends result between new second → Appends result old new (first ++ second)
+Appends-second (Ok x) old between new first second e written = written ∙ ap (λ text. text ++ second) e ∙ append_assoc old first second
+Appends-second (Err x) old between new first second e cut = IsCutShort-second old between new first second e cut
+
+-- pieces that are appended in two steps
+pub four_more : (a b c d e f g h : List ℕ) → a ++ b ++ c ++ d ++ (e ++ f ++ g ++ h) ≡ a ++ b ++ c ++ d ++ e ++ f ++ g ++ h
+four_more a b c d e f g h = simp append_assoc
+
+pub eight_more : (a b c d e f g h i j k l : List ℕ) → a ++ b ++ c ++ d ++ e ++ f ++ g ++ h ++ (i ++ j ++ k ++ l) ≡ a ++ b ++ c ++ d ++ e ++ f ++ g ++ h ++ i ++ j ++ k ++ l
+eight_more a b c d e f g h i j k l = simp append_assoc
 
 -- some of the pieces were written, and the next was not
 pub IsCutShort-pieces : {X : Type 0} (f : X → List ℕ) (xs : List X) (i : ℕ) (old new : List ℕ) → new ≡ old ++ flat_map f (take i xs) → IsCutShort old new (flat_map f xs)

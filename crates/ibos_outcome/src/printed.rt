@@ -4,7 +4,7 @@ ghost use Rattle.std.specs.Prelude.{decimal};
 ghost use Rattle.hex.specs.Hex.{encode_lower};
 ghost use Rattle.ibos_outcome.specs.Printed as spec;
 ghost use Rattle.ibos_outcome.specs.Printed.{Appends, IsCutShort, outcome_text, line_text};
-ghost use Rattle.ibos_outcome.specs.Printed.{head_text, item_text, items_text, pieces_text};
+ghost use Rattle.ibos_outcome.specs.Printed.{head_text, item_text, items_text};
 ghost use Rattle.ibos_outcome.specs.Printed.{addr_text, hex_text, value_text, verdict_text};
 
 use ibos_fields::write_digits;
@@ -49,7 +49,7 @@ pub fn write_head(digits: &[u8], head: Head, text: &mut Bytes) -> Result<(), Mem
     ensures { Appends result text.old text.new (line_text digits.now (head_text head)) }
 {
     match head {
-        Head::Ok => push_pieces(text, &[digits, b" ok\n"]),
+        Head::Ok => push_two(text, digits, b" ok\n"),
         Head::Denied(rule) => {
             let (code, name) = (rule.code().as_bytes(), rule.name().as_bytes());
             write_two(digits, b"denied ", code, name, text)
@@ -166,7 +166,7 @@ fn write_parts<'a>(
     ensures { Appends result text.old text.new
         (line_text digits.now ((tab.now ++ codes "." ++ ord.now) ++ word.now ++ told.now)) }
 {
-    push_pieces(text, &[digits, b" ", tab, b".", ord, word, told, b"\n"])
+    push_eight(text, digits, b" ", tab, b".", ord, word, told, b"\n")
 }
 
 // A byte as two hexadecimal digits.
@@ -252,7 +252,9 @@ fn ends_of(alloc: Global, port: u16, remote: Endpoint) -> Result<Bytes, Memory>
     let port = ports.format(port).as_bytes();
     let other = remotes.format(remote.port).as_bytes();
     let addr = addr_digits(alloc, remote.addr)?;
-    joined(alloc, &[port, b" ", addr.as_slice(), b" ", other])
+    let mut ends = Bytes::new(alloc);
+    push_eight(&mut ends, port, b" ", addr.as_slice(), b" ", other, b"", b"", b"")?;
+    Ok(ends)
 }
 
 // An IPv4 address in dotted decimal.
@@ -266,7 +268,9 @@ fn addr_digits(alloc: Global, addr: u32) -> Result<Bytes, Memory>
     let b = buffers.1.format(b).as_bytes();
     let c = buffers.2.format(c).as_bytes();
     let d = buffers.3.format(d).as_bytes();
-    joined(alloc, &[a, b".", b, b".", c, b".", d])
+    let mut digits = Bytes::new(alloc);
+    push_eight(&mut digits, a, b".", b, b".", c, b".", d, b"")?;
+    Ok(digits)
 }
 
 // A frame for a flow of an instance.
@@ -286,8 +290,8 @@ fn write_frame(
     let tab = buffers.0.format(who.tab).as_bytes();
     let ord = buffers.1.format(who.ord).as_bytes();
     let flow = buffers.2.format(flow).as_bytes();
-    let front = [digits, b" ", tab, b".", ord, b" frame ", flow, b" "];
-    write_hex(&front, bytes, text)
+    push_eight(text, digits, b" ", tab, b".", ord, b" frame ", flow, b" ")?;
+    write_hex(bytes, text)
 }
 
 // A send that was accepted, with its frame.
@@ -307,8 +311,8 @@ fn write_accepted(
     let send = buffers.0.format(send).as_bytes();
     let tab = buffers.1.format(who.tab).as_bytes();
     let ord = buffers.2.format(who.ord).as_bytes();
-    let front = [digits, b" log frame ", send, b" ", tab, b".", ord, b" "];
-    write_hex(&front, bytes, text)
+    push_eight(text, digits, b" log frame ", send, b" ", tab, b".", ord, b" ")?;
+    write_hex(bytes, text)
 }
 
 // An object for a request of an instance.
@@ -330,19 +334,10 @@ fn write_object(
     let ord = buffers.1.format(who.ord).as_bytes();
     let request = buffers.2.format(request).as_bytes();
     let version = buffers.3.format(version).as_bytes();
-    let front = [
-        digits,
-        b" ",
-        tab,
-        b".",
-        ord,
-        b" object ",
-        request,
-        b" ",
-        version,
-        b" ",
-    ];
-    write_hex(&front, bytes, text)
+    push_twelve(
+        text, digits, b" ", tab, b".", ord, b" object ", request, b" ", version, b" ", b"", b"",
+    )?;
+    write_hex(bytes, text)
 }
 
 // An object that is to be stored.
@@ -362,19 +357,9 @@ fn write_put<'a>(
     let mut buffers = (Buffer::new(), Buffer::new());
     let version = buffers.0.format(version).as_bytes();
     let len = buffers.1.format(len).as_bytes();
-    let pieces = [
-        digits,
-        b" store put ",
-        origin,
-        b" ",
-        key,
-        b" ",
-        version,
-        b" ",
-        len,
-        b"\n",
-    ];
-    push_pieces(text, &pieces)
+    push_twelve(
+        text, digits, b" store put ", origin, b" ", key, b" ", version, b" ", len, b"\n", b"", b"",
+    )
 }
 
 // A request for an object.
@@ -395,21 +380,10 @@ fn write_ask<'a>(
     let tab = buffers.0.format(who.tab).as_bytes();
     let ord = buffers.1.format(who.ord).as_bytes();
     let request = buffers.2.format(request).as_bytes();
-    let pieces = [
-        digits,
-        b" store ask ",
-        tab,
-        b".",
-        ord,
-        b" ",
-        request,
-        b" ",
-        origin,
-        b" ",
-        key,
+    push_twelve(
+        text, digits, b" store ask ", tab, b".", ord, b" ", request, b" ", origin, b" ", key,
         b"\n",
-    ];
-    push_pieces(text, &pieces)
+    )
 }
 
 // A line to an instance that ends in a number.
@@ -486,11 +460,8 @@ fn write_told_parts<'a>(
         (line_text digits.now ((tab.now ++ codes "." ++ ord.now)
         ++ word.now ++ first.now ++ codes " " ++ second.now)) }
 {
-    push_pieces(
-        text,
-        &[
-            digits, b" ", tab, b".", ord, word, first, b" ", second, b"\n",
-        ],
+    push_twelve(
+        text, digits, b" ", tab, b".", ord, word, first, b" ", second, b"\n", b"", b"",
     )
 }
 
@@ -504,7 +475,7 @@ fn write_one<'a>(
 ) -> Result<(), Memory>
     ensures { Appends result text.old text.new (line_text digits.now (said.now ++ word.now)) }
 {
-    push_pieces(text, &[digits, b" ", said, word, b"\n"])
+    push_eight(text, digits, b" ", said, word, b"\n", b"", b"", b"")
 }
 
 // A line that ends in two words.
@@ -519,7 +490,7 @@ fn write_two<'a>(
     ensures { Appends result text.old text.new
         (line_text digits.now (said.now ++ first.now ++ codes " " ++ second.now)) }
 {
-    push_pieces(text, &[digits, b" ", said, first, b" ", second, b"\n"])
+    push_eight(text, digits, b" ", said, first, b" ", second, b"\n", b"")
 }
 
 // A row of the screen.
@@ -542,7 +513,7 @@ fn write_cells<'a>(
     ensures { Appends result text.old text.new
         (line_text digits.now (codes "user row " ++ row.now ++ codes " |" ++ cells.now)) }
 {
-    push_pieces(text, &[digits, b" user row ", row, b" |", cells, b"\n"])
+    push_eight(text, digits, b" user row ", row, b" |", cells, b"\n", b"", b"")
 }
 
 #[tactic(auto, unfolding(crate::specs::Printed::or_dash))]
@@ -552,14 +523,12 @@ fn or_dash(text: &[u8]) -> &[u8]
     if text.is_empty() { b"-" } else { text }
 }
 
-// The pieces of a line, and the bytes in which it ends.
-fn write_hex(front: &[&[u8]], bytes: &[u8], text: &mut Bytes) -> Result<(), Memory>
-    ensures { Appends result text.old text.new
-        (pieces_text front.now ++ hex_text bytes.now ++ codes "\n") }
+// The bytes in which a line ends.
+fn write_hex(bytes: &[u8], text: &mut Bytes) -> Result<(), Memory>
+    ensures { Appends result text.old text.new (hex_text bytes.now ++ codes "\n") }
 {
-    push_pieces(text, front)?;
     push_hex(text, bytes)?;
-    push_pieces(text, &[b"\n"])
+    push_two(text, b"\n", b"")
 }
 
 // Appends bytes in hexadecimal, `-` for none.
@@ -568,7 +537,7 @@ fn push_hex(text: &mut Bytes, bytes: &[u8]) -> Result<(), Memory>
     ensures { Appends result text.old text.new (hex_text bytes.now) }
 {
     if bytes.is_empty() {
-        return push_pieces(text, &[b"-"]);
+        return push_two(text, b"-", b"");
     }
     push_digits(text, bytes)
 }
@@ -597,21 +566,64 @@ fn push_few(text: &mut Bytes, bytes: &[u8]) -> Result<(), Memory>
     text.push_slice(digits)
 }
 
-// A text of pieces, one after another.
-fn joined(alloc: Global, pieces: &[&[u8]]) -> Result<Bytes, Memory>
-    ensures { IfOk result (λ text. text ≡ pieces_text pieces.now) }
+// Appends pieces, one after another, `b""` where there are fewer. They stand in straight code since
+// a loop over them calls for each what copies bytes of any number.
+#[inline(always)]
+fn push_two(text: &mut Bytes, a: &[u8], b: &[u8]) -> Result<(), Memory>
+    ensures { Appends result text.old text.new (a.now ++ b.now) }
 {
-    let mut text = Bytes::new(alloc);
-    push_pieces(&mut text, pieces)?;
-    Ok(text)
+    text.push_slice(a)?;
+    text.push_slice(b)?;
+    Ok(())
 }
 
-// Appends pieces, one after another.
-fn push_pieces(text: &mut Bytes, pieces: &[&[u8]]) -> Result<(), Memory>
-    ensures { Appends result text.old text.new (pieces_text pieces.now) }
+#[inline(always)]
+fn push_four(text: &mut Bytes, a: &[u8], b: &[u8], c: &[u8], d: &[u8]) -> Result<(), Memory>
+    ensures { Appends result text.old text.new (a.now ++ b.now ++ c.now ++ d.now) }
 {
-    for piece in pieces {
-        text.push_slice(piece)?;
-    }
-    Ok(())
+    push_two(text, a, b)?;
+    push_two(text, c, d)
+}
+
+#[inline(always)]
+fn push_eight(
+    text: &mut Bytes,
+    a: &[u8],
+    b: &[u8],
+    c: &[u8],
+    d: &[u8],
+    e: &[u8],
+    f: &[u8],
+    g: &[u8],
+    h: &[u8],
+) -> Result<(), Memory>
+    ensures { Appends result text.old text.new
+        (a.now ++ b.now ++ c.now ++ d.now ++ e.now ++ f.now ++ g.now ++ h.now) }
+{
+    push_four(text, a, b, c, d)?;
+    push_four(text, e, f, g, h)
+}
+
+#[inline(always)]
+fn push_twelve(
+    text: &mut Bytes,
+    a: &[u8],
+    b: &[u8],
+    c: &[u8],
+    d: &[u8],
+    e: &[u8],
+    f: &[u8],
+    g: &[u8],
+    h: &[u8],
+    i: &[u8],
+    j: &[u8],
+    k: &[u8],
+    l: &[u8],
+) -> Result<(), Memory>
+    ensures { Appends result text.old text.new
+        (a.now ++ b.now ++ c.now ++ d.now ++ e.now ++ f.now ++ g.now ++ h.now
+        ++ i.now ++ j.now ++ k.now ++ l.now) }
+{
+    push_eight(text, a, b, c, d, e, f, g, h)?;
+    push_four(text, i, j, k, l)
 }

@@ -2,7 +2,7 @@
 use Rattle.std.proofs.Common.{◌≡◌, ℕ, ◌+◌, ◌-◌, ◌≤◌, List, [], ◌∷◌, ◌++◌, Bool, true, false, not, cond, refl, take, drop, length, arith, Some, None, sym, ◌∙◌, ap, subst}
 use Rattle.std.specs.Prelude.{◌==◌}
 use Rattle.std.proofs.lemmas.List.{length-drop, length-take, take_all, take-append-drop}
-use Rattle.std.proofs.lemmas.List.Sums.{position_or_len_is}
+use Rattle.std.proofs.lemmas.List.Sums.{position_or_len_is, prefix_len-le-length}
 use Rattle.memchr.specs.Find.{IsFirstByte, is_byte}
 use Rattle.ibos_text.specs.Parts.{len_before}
 
@@ -42,3 +42,7 @@ none_behind byte text few fits past within found =
     let end : few + length (drop few text) ≡ length text = omega (arith, length-drop few text, fits) in
     sym end ∙ len_behind_few byte text few (length (drop few text)) fits past within
     (position_or_len_is (λ b. b == byte) (drop few text) (length (drop few text)) 0 (omega arith) (λ k below. no_pass _ (here k (omega arith) below)) (λ past_end. absurd (omega arith)))
+
+-- a part is no longer than the text
+pub len_before-le : (byte : ℕ) (text : List ℕ) → len_before byte text ≤ length text
+len_before-le byte text = prefix_len-le-length (λ b. not (b == byte)) text

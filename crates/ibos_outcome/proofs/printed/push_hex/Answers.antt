@@ -5,8 +5,8 @@ use Rattle.ibos_outcome.proofs.printed.push_hex.Goals as goal
 
 pub returns-then-is_empty : goal.returns-then-is_empty
 returns-then-is_empty c =
-    let P : List ℕ → Type 0 = λ x. Appends c.push_pieces.result c.args.text.now c.push_pieces.new.text x in
-    subst P (dash_spelled c.args.bytes.now (sym c.is_empty.ensures ∙ c.if-is_empty.true)) c.push_pieces.ensures
+    let P : List ℕ → Type 0 = λ x. Appends c.push_two.result c.args.text.now c.push_two.new.text x in
+    subst P (dash_spelled c.args.bytes.now (sym c.is_empty.ensures ∙ c.if-is_empty.true)) c.push_two.ensures
 
 pub returns : goal.returns
 returns c =

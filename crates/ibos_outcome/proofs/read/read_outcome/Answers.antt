@@ -17,7 +17,7 @@ read_items-requires-clause-digits c =
     let P : List ℕ → Type 0 = λ d. list_all is_digit d ≡ true in
     subst P (sym digits) (number_digits c.in-Some.number small)
 
-found : (c : goal.After-drop-line-inside-2) → IsRead c.args.text.now c.in-Some.number c.read_items.new.outcome (c.len-start.result + c.in_ok-len.len) c.in_ok-len.len
+found : (c : goal.Joined-line-4) → IsRead c.args.text.now c.in-Some.number c.read_items.new.outcome (c.len-start.result + c.in_ok-len.len) c.in_ok-len.len
 found c =
     let small = rw c.in-Some.is at c.in_ok-number.ensures.number in
     let some = rw c.in-Some.is at c.in_ok-number.ensures.some in
