@@ -1,4 +1,3 @@
 pub mod Jars
 pub mod Faults
 pub mod Lines
-pub mod Hash

@@ -6,10 +6,10 @@ ghost use Rattle.ibos_cookie.specs.Lines.{front, table_len};
 ghost use Rattle.ibos_cookie.specs.Lines as spec;
 ghost use Rattle.ibos_cookie.specs.Faults.{Answers, full_rule};
 
-use crate::hash::TextHasher;
 use crate::jars::CookieFault;
 use crate::texts::{is_token, is_value, split_cookie};
 use ibos_kinds::{Bytes, Memory, Rule};
+use ibos_text::TextHasher;
 use indexmap::IndexMap;
 use std::alloc::Global;
 use std::hash::BuildHasherDefault;

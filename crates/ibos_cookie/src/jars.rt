@@ -2,9 +2,9 @@
 ghost use Rattle.std.specs.Prelude.{◌≡◌, [], IfOk, OnOk, OnErr};
 ghost use Rattle.ibos_kinds.specs.Cookies.{cookie_in, set_breaks, jar_text};
 
-use crate::hash::TextHasher;
 use crate::jar::Jar;
 use ibos_kinds::{Bytes, Memory, Rule};
+use ibos_text::TextHasher;
 use indexmap::IndexMap;
 use std::alloc::{AllocError, AllocFailed, Global};
 use std::hash::BuildHasherDefault;

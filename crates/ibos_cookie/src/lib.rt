@@ -1,7 +1,6 @@
 //! Cookie jars, one for each origin.
 #![tactic(auto)]
 
-mod hash;
 mod jar;
 mod jars;
 mod texts;

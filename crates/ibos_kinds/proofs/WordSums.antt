@@ -5,21 +5,6 @@ use Rattle.std.proofs.lemmas.List.{drop_more, drop_all, take-append-drop, length
 use Rattle.std.proofs.lemmas.Bool.Decides.{nat_tests}
 use Rattle.ibos_kinds.specs.Sums.{plain_sum, carried, sum_words}
 
--- two bytes at the front are the first word
-pub plain_sum-pair : (xs : List ℕ) (i : ℕ) → i + 1 < length xs → plain_sum (drop i xs) ≡ 256 * get_or xs i 0 + get_or xs (i + 1) 0 + plain_sum (drop (i + 2) xs)
-plain_sum-pair xs i h =
-    let one : drop i xs ≡ get_or xs i 0 ∷ drop (i + 1) xs = drop_more xs i 0 (omega arith) in
-    let two : drop (i + 1) xs ≡ get_or xs (i + 1) 0 ∷ drop (i + 1 + 1) xs = drop_more xs (i + 1) 0 h in
-    let place : i + 1 + 1 ≡ i + 2 = omega arith in
-    ap plain_sum (one ∙ ap (λ t. get_or xs i 0 ∷ t) (two ∙ ap (λ k. get_or xs (i + 1) 0 ∷ drop k xs) place))
-
--- a last byte is padded by zero
-pub plain_sum-last : (xs : List ℕ) (i : ℕ) → length xs ≡ i + 1 → plain_sum (drop i xs) ≡ 256 * get_or xs i 0
-plain_sum-last xs i h =
-    let one : drop i xs ≡ get_or xs i 0 ∷ drop (i + 1) xs = drop_more xs i 0 (omega arith) in
-    let none : drop (i + 1) xs ≡ [] = drop_all (i + 1) xs (omega arith) in
-    ap plain_sum (one ∙ ap (λ t. get_or xs i 0 ∷ t) none)
-
 -- the words of what follows an even number of bytes
 pub plain_sum-append : (xs ys : List ℕ) (k : ℕ) → length xs ≡ 2 * k → plain_sum (xs ++ ys) ≡ plain_sum xs + plain_sum ys
 plain_sum-append [] ys k h = omega arith

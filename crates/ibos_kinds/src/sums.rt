@@ -1,8 +1,8 @@
 // Internet checksums, as RFC 1071 words them.
-ghost use Rattle.std.specs.Prelude.{◌≡◌, ℕ, ◌<◌, ◌≤◌, ◌%◌, ◌^◌, List, ◌++◌, length};
+ghost use Rattle.std.specs.Prelude.{◌≡◌, ℕ, ◌+◌, ◌<◌, ◌≤◌, ◌%◌, ◌^◌, List, ◌++◌, length};
 ghost use Rattle.ibos_kinds.specs.Sums.{plain_sum, carried, sum_words, sum16};
 
-// So few bytes that the plain sum of their words, with a word more, fits 32 bits.
+// So few bytes that the sum of what they hold, four bytes at a time, fits 64 bits.
 const PIECE: usize = 65536;
 
 /// The ones' complement sum (RFC 1071) of a word and of the 16-bit words in the bytes, the first
@@ -20,10 +20,10 @@ pub fn sum_words(start: u16, bytes: &[u8]) -> u16
     let mut rest = bytes;
     while rest.len() > PIECE {
         let (piece, after) = rest.split_at(PIECE);
-        total = carried(u32::from(total) + plain_sum(piece));
+        total = with_piece(total, piece);
         rest = after;
     }
-    carried(u32::from(total) + plain_sum(rest))
+    with_piece(total, rest)
 }
 
 /// The checksum (RFC 1071) of the bytes: the complement of the ones' complement sum of their words.
@@ -35,24 +35,37 @@ pub fn sum16(bytes: &[u8]) -> u16
     u16::MAX - sum_words(0, bytes)
 }
 
-// The sum of the words in a piece.
-fn plain_sum(piece: &[u8]) -> u32
+// A word and the words in a piece, summed. Two words are added as one number: its higher word
+// counts as often as its weight, 65536, which carries to 1.
+fn with_piece(start: u16, piece: &[u8]) -> u16
     requires { length piece.now ≤ PIECE }
-    ensures within { result < 2 ^ 31 }
-    ensures value { result ≡ plain_sum piece.now }
+    ensures { result ≡ carried (start + plain_sum piece.now) }
 {
-    let mut total = 0;
-    for place in 0..piece.len() / 2 {
-        total += 256 * u32::from(piece[2 * place]) + u32::from(piece[2 * place + 1]);
+    let mut total = u64::from(start);
+    let mut rest = piece;
+    while let [a, b, c, d, after @ ..] = rest {
+        total += u64::from(u32::from_be_bytes([*a, *b, *c, *d]));
+        rest = after;
     }
-    if piece.len() % 2 == 1 {
-        total += 256 * u32::from(piece[piece.len() - 1]);
-    }
-    total
+    carried(total + last_words(rest))
 }
 
-// A plain sum in 16 bits, its carries added in.
-fn carried(total: u32) -> u16
+// The words in the last bytes, fewer than four.
+fn last_words(rest: &[u8]) -> u64
+    requires { length rest.now < 4 }
+    ensures within { result < 2 ^ 32 }
+    ensures value { result ≡ plain_sum rest.now }
+{
+    match rest {
+        [a, b, c] => 256 * (u64::from(*a) + u64::from(*c)) + u64::from(*b),
+        [a, b] => 256 * u64::from(*a) + u64::from(*b),
+        [a] => 256 * u64::from(*a),
+        _ => 0,
+    }
+}
+
+// A sum in 16 bits, its carries added in.
+fn carried(total: u64) -> u16
     ensures { result ≡ carried total }
 {
     if total == 0 {

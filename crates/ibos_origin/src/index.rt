@@ -3,15 +3,17 @@ ghost use Rattle.std.specs.Prelude.{◌≡◌, ◌++◌, [], ◌∷◌, None, le
 ghost use Rattle.ibos_origin.specs.Hosts.{address_of};
 
 use ibos_kinds::Memory;
+use ibos_text::TextHasher;
 use indexmap::IndexMap;
 use std::alloc::Global;
+use std::hash::BuildHasherDefault;
 use std::marker::Model;
 
 /// Hosts with their addresses, each name once, in the order in which they came. A name is found by
 /// its hash.
 #[derive(Debug, Drop)]
 pub struct HostIndex {
-    addrs: IndexMap<Vec<u8>, u32>,
+    addrs: IndexMap<Vec<u8>, u32, BuildHasherDefault<TextHasher>>,
 }
 
 impl Model for HostIndex {
@@ -31,7 +33,7 @@ impl HostIndex {
         ensures { result ≡ [] }
     {
         HostIndex {
-            addrs: IndexMap::new(alloc),
+            addrs: IndexMap::with_hasher(alloc, BuildHasherDefault::new()),
         }
     }
 

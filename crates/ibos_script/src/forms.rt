@@ -544,6 +544,5 @@ fn end_line(line: &[u8]) -> Result<(), LineFault>
 fn read_rest(alloc: Global, line: &[u8]) -> Result<Bytes, Memory>
     ensures { IfOk result (λ rest. rest ≡ after_spaces line.now) }
 {
-    let rest = Vec::from_slice(alloc, skip_spaces(line))?;
-    Ok(Bytes::from(rest))
+    Bytes::from_slice(alloc, skip_spaces(line))
 }

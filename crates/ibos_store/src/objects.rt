@@ -7,8 +7,10 @@ ghost use Rattle.ibos_kinds.specs.Labels.{lose_answer, newest_answer, quota_answ
 use crate::fault::StoreFault;
 use crate::object::Object;
 use ibos_kinds::{Bytes, Rule};
+use ibos_text::TextHasher;
 use indexmap::IndexMap;
 use std::alloc::Global;
+use std::hash::BuildHasherDefault;
 use std::marker::Model;
 
 const MAX_BYTES: usize = 65_536;
@@ -17,7 +19,7 @@ const MAX_BYTES: usize = 65_536;
 /// have together.
 #[derive(Drop)]
 pub(crate) struct Objects {
-    objects: IndexMap<Vec<u8>, Object>,
+    objects: IndexMap<Vec<u8>, Object, BuildHasherDefault<TextHasher>>,
     bytes: usize,
 }
 
@@ -40,7 +42,7 @@ impl Objects {
         ensures { result ≡ [] }
     {
         Objects {
-            objects: IndexMap::new(alloc),
+            objects: IndexMap::with_hasher(alloc, BuildHasherDefault::new()),
             bytes: 0,
         }
     }

@@ -14,6 +14,7 @@ use crate::keys::is_key;
 use crate::objects::Objects;
 use crate::table::RequestTable;
 use ibos_kinds::{Bytes, Instance, Memory, Rule};
+use ibos_text::TextHasher;
 use indexmap::IndexMap;
 use std::alloc::Global;
 use std::marker::Model;
@@ -46,7 +47,7 @@ const MAX_OBJECT: usize = 2_048;
 #[derive(Drop)]
 pub struct Store {
     alloc: Global,
-    origins: IndexMap<Vec<u8>, Objects>,
+    origins: IndexMap<Vec<u8>, Objects, BuildHasherDefault<TextHasher>>,
     requests: RequestTable,
 }
 
@@ -72,7 +73,7 @@ impl Store {
     {
         Store {
             alloc,
-            origins: IndexMap::new(alloc),
+            origins: IndexMap::with_hasher(alloc, BuildHasherDefault::new()),
             requests: RequestTable::new(alloc),
         }
     }

@@ -10,8 +10,7 @@ loop-rest-preserved c =
     let after : ℕ = plain_sum c.split_at.result.1.now in
     let split : plain_sum c.loop-rest.rest.now ≡ piece + after =
     plain_sum-split c.loop-rest.rest.now 32768 (omega arith) ∙ (rw (c.split_at.ensures.front, c.split_at.ensures.back) refl) in
-    let sum : c.from.result + c.plain_sum.result ≡ total + piece = omega arith in
-    let now : c.carried-total.result ≡ carried (total + piece) = c.carried-total.ensures ∙ ap carried sum in
+    let now : c.with_piece-total.result ≡ carried (total + piece) = c.with_piece-total.ensures in
     let regroup : total + piece + after ≡ total + (plain_sum c.loop-rest.rest.now) = omega (arith, split) in
     record {
       word = omega (arith, now, carried-le (total + piece));
@@ -21,7 +20,5 @@ loop-rest-preserved c =
 pub returns-clause-parts : goal.returns-clause-parts
 unfolding sum_words
 returns-clause-parts c = λ first front even start.
-    let sum : c.from-2.result + c.plain_sum-2.result ≡ c.loop-rest.total + plain_sum c.loop-rest.rest.now = omega arith in
-    let summed : c.carried.result ≡ sum_words c.args.start c.args.bytes.now =
-    c.carried.ensures ∙ ap carried sum ∙ c.loop-rest.invariant.so_far in
+    let summed : c.with_piece.result ≡ sum_words c.args.start c.args.bytes.now = c.with_piece.ensures ∙ c.loop-rest.invariant.so_far in
     summed ∙ ap (λ n. sum_words n c.args.bytes.now) start ∙ sum_words-append first front c.args.bytes.now even

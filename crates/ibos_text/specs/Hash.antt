@@ -1,7 +1,7 @@
 -- How origins and names are hashed.
 use Rattle.std.specs.Prelude.{ℕ, ◌+◌, ◌*◌, ◌%◌, ◌^◌, List, fold, bit_xor}
 use Rattle.std.specs.Int.{rotate_left, w64}
-use Rattle.ibos_cookie.specs.declared.hash.TextHasher.{TextHasher}
+use Rattle.ibos_text.specs.declared.hash.TextHasher.{TextHasher}
 
 -- the bytes of one write as a number
 abbrev pub number_of : List ℕ → ℕ

@@ -1,6 +1,6 @@
 // A hash function for short texts that come byte by byte.
 ghost use Rattle.std.specs.Prelude.{◌≡◌};
-ghost use Rattle.ibos_cookie.specs.Hash.{number_of};
+ghost use Rattle.ibos_text.specs.Hash.{number_of};
 
 use std::hash::Hasher;
 
@@ -10,12 +10,12 @@ const SPREAD: u64 = 0x9e37_79b9_7f4a_7c15;
 /// A hash function for texts. A table feeds it their bytes one at a time, so that a step must be
 /// short: a rotation, and no product but at the end.
 #[derive(Clone, Copy, Default)]
-pub(crate) struct TextHasher {
+pub struct TextHasher {
     state: u64,
 }
 
 impl Hasher for TextHasher {
-    ghost use Rattle.ibos_cookie.specs.Hash as spec;
+    ghost use Rattle.ibos_text.specs.Hash as spec;
 
     ghost write = { spec.write };
 
