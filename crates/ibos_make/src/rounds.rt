@@ -181,8 +181,9 @@ pub fn round_len(kind: Kind) -> u8
     }
 }
 
-/// An act of a round, from the counts before it. It is made where the caller wants it, so that it is
-/// never moved: each of these functions answers as `Drill::next` does.
+/// An act of a round, from the counts before it. Each of these functions answers as `Drill::next`
+/// does, and each arm names the whole answer: so an act is written where the caller wants it, and
+/// not moved there afterwards.
 pub fn round_act(
     alloc: Global,
     round: Round,
@@ -226,20 +227,19 @@ fn receive_act(
     ensures some { IfOk result IsSome }
     ensures fits { IfOk result (λ made. IfSome made Fits) }
 {
-    let act = match place {
-        0 => Act::WireIn {
+    match place {
+        0 => Ok(Some(Act::WireIn {
             frame: frame_in(alloc, tab, byte)?,
-        },
-        1 => Act::RxBell,
-        2 => post_again(received),
-        3 => Act::RegWrite {
+        })),
+        1 => Ok(Some(Act::RxBell)),
+        2 => Ok(Some(post_again(received))),
+        3 => Ok(Some(Act::RegWrite {
             offset: RDT,
             value: received % 64,
-        },
-        4 => Act::Done { who: first_of(tab) },
+        })),
+        4 => Ok(Some(Act::Done { who: first_of(tab) })),
         _ => unreachable!(),
-    };
-    Ok(Some(act))
+    }
 }
 
 // The buffer of a frame is posted where the ring goes on. Each round trip of a buffer is one more
@@ -266,31 +266,30 @@ fn send_act(alloc: Global, tab: u8, byte: u8, sent: u32, place: u8) -> Result<Op
     ensures fits { IfOk result (λ made. IfSome made Fits) }
 {
     let who = first_of(tab);
-    let act = match place {
-        0 => Act::Fill {
+    match place {
+        0 => Ok(Some(Act::Fill {
             who,
             buffer: 0,
             place: 0,
             bytes: frame_out(alloc, tab, byte)?,
-        },
-        1 => Act::Submit {
+        })),
+        1 => Ok(Some(Act::Submit {
             who,
             buffer: 0,
             len: 55,
-        },
-        2 => Act::TxPost {
+        })),
+        2 => Ok(Some(Act::TxPost {
             slot: sent % 64,
             send: sent,
-        },
-        3 => Act::RegWrite {
+        })),
+        3 => Ok(Some(Act::RegWrite {
             offset: TDT,
             value: (sent % 64 + 1) % 64,
-        },
-        4 => Act::WireOut,
-        5 => Act::TxBell,
+        })),
+        4 => Ok(Some(Act::WireOut)),
+        5 => Ok(Some(Act::TxBell)),
         _ => unreachable!(),
-    };
-    Ok(Some(act))
+    }
 }
 
 // A cookie is set and read.
@@ -302,19 +301,18 @@ fn cookie_act(alloc: Global, tab: u8, byte: u8, place: u8) -> Result<Option<Act>
     ensures fits { IfOk result (λ made. IfSome made Fits) }
 {
     let who = first_of(tab);
-    let act = match place {
-        0 => Act::CookieSet {
+    match place {
+        0 => Ok(Some(Act::CookieSet {
             side: Side::Page,
             who,
             text: set_text(alloc, byte)?,
-        },
-        1 => Act::CookieGet {
+        })),
+        1 => Ok(Some(Act::CookieGet {
             side: Side::Net,
             who,
-        },
+        })),
         _ => unreachable!(),
-    };
-    Ok(Some(act))
+    }
 }
 
 // An object is stored and asked for. An answer in the name of another origin is refused, and one in
@@ -336,30 +334,29 @@ fn object_act(
 {
     let who = first_of(tab);
     let key = key_name(alloc, byte)?;
-    let act = match place {
-        0 => Act::Put {
+    match place {
+        0 => Ok(Some(Act::Put {
             who,
             key,
             bytes: Bytes::from_slice(alloc, &[byte])?,
-        },
-        1 => Act::Ask { who, key },
-        2 => Act::StoreAnswer {
+        })),
+        1 => Ok(Some(Act::Ask { who, key })),
+        2 => Ok(Some(Act::StoreAnswer {
             who,
             request,
             origin: origin(alloc, (tab + 1) % 8)?,
             key,
             version,
-        },
-        3 => Act::StoreAnswer {
+        })),
+        3 => Ok(Some(Act::StoreAnswer {
             who,
             request,
             origin: origin(alloc, tab)?,
             key,
             version,
-        },
+        })),
         _ => unreachable!(),
-    };
-    Ok(Some(act))
+    }
 }
 
 // A tab is switched to, and a key pressed there; the page draws the key's byte.
@@ -371,22 +368,21 @@ fn screen_act(alloc: Global, tab: u8, byte: u8, place: u8) -> Result<Option<Act>
     ensures fits { IfOk result (λ made. IfSome made Fits) }
 {
     let drawn = b' ' + byte % 95;
-    let act = match place {
-        0 => Act::Switch { tab },
-        1 => Act::Press {
+    match place {
+        0 => Ok(Some(Act::Switch { tab })),
+        1 => Ok(Some(Act::Press {
             key: Key::Byte(drawn),
-        },
-        2 => Act::Draw {
+        })),
+        2 => Ok(Some(Act::Draw {
             who: first_of(tab),
             row: u32::from(byte % 22),
             col: u32::from(byte % 80),
             height: 1,
             width: 1,
             pixels: Bytes::from_slice(alloc, &[drawn])?,
-        },
+        })),
         _ => unreachable!(),
-    };
-    Ok(Some(act))
+    }
 }
 
 // A frame from the tab's host to its page.

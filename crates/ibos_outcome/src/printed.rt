@@ -253,7 +253,17 @@ fn ends_of(alloc: Global, port: u16, remote: Endpoint) -> Result<Bytes, Memory>
     let other = remotes.format(remote.port).as_bytes();
     let addr = addr_digits(alloc, remote.addr)?;
     let mut ends = Bytes::new(alloc);
-    push_eight(&mut ends, port, b" ", addr.as_slice(), b" ", other, b"", b"", b"")?;
+    push_eight(
+        &mut ends,
+        port,
+        b" ",
+        addr.as_slice(),
+        b" ",
+        other,
+        b"",
+        b"",
+        b"",
+    )?;
     Ok(ends)
 }
 
@@ -311,7 +321,17 @@ fn write_accepted(
     let send = buffers.0.format(send).as_bytes();
     let tab = buffers.1.format(who.tab).as_bytes();
     let ord = buffers.2.format(who.ord).as_bytes();
-    push_eight(text, digits, b" log frame ", send, b" ", tab, b".", ord, b" ")?;
+    push_eight(
+        text,
+        digits,
+        b" log frame ",
+        send,
+        b" ",
+        tab,
+        b".",
+        ord,
+        b" ",
+    )?;
     write_hex(bytes, text)
 }
 
@@ -335,7 +355,19 @@ fn write_object(
     let request = buffers.2.format(request).as_bytes();
     let version = buffers.3.format(version).as_bytes();
     push_twelve(
-        text, digits, b" ", tab, b".", ord, b" object ", request, b" ", version, b" ", b"", b"",
+        text,
+        digits,
+        b" ",
+        tab,
+        b".",
+        ord,
+        b" object ",
+        request,
+        b" ",
+        version,
+        b" ",
+        b"",
+        b"",
     )?;
     write_hex(bytes, text)
 }
@@ -358,7 +390,19 @@ fn write_put<'a>(
     let version = buffers.0.format(version).as_bytes();
     let len = buffers.1.format(len).as_bytes();
     push_twelve(
-        text, digits, b" store put ", origin, b" ", key, b" ", version, b" ", len, b"\n", b"", b"",
+        text,
+        digits,
+        b" store put ",
+        origin,
+        b" ",
+        key,
+        b" ",
+        version,
+        b" ",
+        len,
+        b"\n",
+        b"",
+        b"",
     )
 }
 
@@ -381,7 +425,18 @@ fn write_ask<'a>(
     let ord = buffers.1.format(who.ord).as_bytes();
     let request = buffers.2.format(request).as_bytes();
     push_twelve(
-        text, digits, b" store ask ", tab, b".", ord, b" ", request, b" ", origin, b" ", key,
+        text,
+        digits,
+        b" store ask ",
+        tab,
+        b".",
+        ord,
+        b" ",
+        request,
+        b" ",
+        origin,
+        b" ",
+        key,
         b"\n",
     )
 }
@@ -513,7 +568,17 @@ fn write_cells<'a>(
     ensures { Appends result text.old text.new
         (line_text digits.now (codes "user row " ++ row.now ++ codes " |" ++ cells.now)) }
 {
-    push_eight(text, digits, b" user row ", row, b" |", cells, b"\n", b"", b"")
+    push_eight(
+        text,
+        digits,
+        b" user row ",
+        row,
+        b" |",
+        cells,
+        b"\n",
+        b"",
+        b"",
+    )
 }
 
 #[tactic(auto, unfolding(crate::specs::Printed::or_dash))]

@@ -1,5 +1,5 @@
 -- What a line is answered, and the number and name under which its fault is printed.
-use Rattle.std.specs.Prelude.{◌≡◌, ℕ, List, [], Result, Ok, Err, codes}
+use Rattle.std.specs.Prelude.{◌≡◌, ℕ, List, [], Option, None, Some, Result, Ok, Err, codes}
 use Rattle.ibos_script.specs.declared.fault.LineFault.{LineFault}
 use Rattle.ibos_script.specs.declared.fault.LineFault.TheVariants.{Long, Byte, Word, Count, Number}
 use Rattle.ibos_script.specs.declared.fault.LineFault.TheVariants.{Hex, Memory}
@@ -12,6 +12,12 @@ GivesFault fault wanted = wanted ≡ Err fault
 abbrev pub Gives : {T : Type 0} → Result T LineFault → Result T LineFault → Type 0
 Gives (Ok x) wanted = wanted ≡ Ok x
 Gives (Err fault) wanted = GivesFault fault wanted
+
+-- the answer is some line, the one that is wanted, unless memory was wanting
+abbrev pub Tells : {T : Type 0} → Result (Option T) LineFault → Result T LineFault → Type 0
+Tells (Ok (Some line)) wanted = wanted ≡ Ok line
+Tells (Ok None) wanted = ⊥
+Tells (Err fault) wanted = GivesFault fault wanted
 
 -- want of memory has none
 abbrev pub number_of : LineFault → ℕ

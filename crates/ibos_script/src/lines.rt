@@ -1,7 +1,7 @@
 // The lines of a script.
 ghost use Rattle.std.specs.Prelude.{◌≡◌, IfOk, IfSome};
 ghost use Rattle.ibos_text.specs.Words.{first_word, after_word};
-ghost use Rattle.ibos_script.specs.Faults.{Gives};
+ghost use Rattle.ibos_script.specs.Faults.{Gives, Tells};
 ghost use Rattle.ibos_script.specs.Lines.{LineFits, line_in, act_in, user_in, page_in, net_in};
 ghost use Rattle.ibos_script.specs.Lines.{cookie_in, flow_in, dev_in, bell_in, wire_in, store_in};
 ghost use Rattle.ibos_script.specs.Lines as spec;
@@ -77,8 +77,7 @@ pub fn read_line(alloc: Global, line: &[u8]) -> Result<Option<Line>, LineFault>
     let Some((actor, rest)) = next_word(line) else {
         return Ok(None);
     };
-    let line = read_act(alloc, actor, rest)?;
-    Ok(Some(line))
+    read_act(alloc, actor, rest)
 }
 
 fn is_comment(line: &[u8]) -> bool
@@ -88,9 +87,9 @@ fn is_comment(line: &[u8]) -> bool
 }
 
 #[tactic(auto, unfolding(crate::specs::Lines::act_in))]
-fn read_act(alloc: Global, actor: &[u8], line: &[u8]) -> Result<Line, LineFault>
-    ensures line { Gives result (act_in actor.now line.now) }
-    ensures fits { IfOk result LineFits }
+fn read_act(alloc: Global, actor: &[u8], line: &[u8]) -> Result<Option<Line>, LineFault>
+    ensures line { Tells result (act_in actor.now line.now) }
+    ensures fits { IfOk result (λ line. IfSome line LineFits) }
 {
     let (second, line) = split_word(line);
     if actor == b"user".as_slice() {
@@ -116,9 +115,9 @@ fn read_act(alloc: Global, actor: &[u8], line: &[u8]) -> Result<Line, LineFault>
 }
 
 #[tactic(auto, unfolding(crate::specs::Lines::user_in))]
-fn read_user(alloc: Global, command: &[u8], line: &[u8]) -> Result<Line, LineFault>
-    ensures line { Gives result (user_in command.now line.now) }
-    ensures fits { IfOk result LineFits }
+fn read_user(alloc: Global, command: &[u8], line: &[u8]) -> Result<Option<Line>, LineFault>
+    ensures line { Tells result (user_in command.now line.now) }
+    ensures fits { IfOk result (λ line. IfSome line LineFits) }
 {
     if command == b"open".as_slice() {
         return read_open(alloc, line);
@@ -142,9 +141,9 @@ fn read_user(alloc: Global, command: &[u8], line: &[u8]) -> Result<Line, LineFau
 }
 
 #[tactic(auto, unfolding(crate::specs::Lines::dev_in))]
-fn read_dev(command: &[u8], line: &[u8]) -> Result<Line, LineFault>
-    ensures line { Gives result (dev_in command.now line.now) }
-    ensures fits { IfOk result LineFits }
+fn read_dev(command: &[u8], line: &[u8]) -> Result<Option<Line>, LineFault>
+    ensures line { Tells result (dev_in command.now line.now) }
+    ensures fits { IfOk result (λ line. IfSome line LineFits) }
 {
     if command == b"read".as_slice() {
         return read_register_read(line);
@@ -166,9 +165,9 @@ fn read_dev(command: &[u8], line: &[u8]) -> Result<Line, LineFault>
 }
 
 #[tactic(auto, unfolding(crate::specs::Lines::bell_in))]
-fn read_bell(ring: &[u8], line: &[u8]) -> Result<Line, LineFault>
-    ensures line { Gives result (bell_in ring.now line.now) }
-    ensures fits { IfOk result LineFits }
+fn read_bell(ring: &[u8], line: &[u8]) -> Result<Option<Line>, LineFault>
+    ensures line { Tells result (bell_in ring.now line.now) }
+    ensures fits { IfOk result (λ line. IfSome line LineFits) }
 {
     if ring == b"rx".as_slice() {
         return read_receive_bell(line);
@@ -180,9 +179,9 @@ fn read_bell(ring: &[u8], line: &[u8]) -> Result<Line, LineFault>
 }
 
 #[tactic(auto, unfolding(crate::specs::Lines::wire_in))]
-fn read_wire(alloc: Global, command: &[u8], line: &[u8]) -> Result<Line, LineFault>
-    ensures line { Gives result (wire_in command.now line.now) }
-    ensures fits { IfOk result LineFits }
+fn read_wire(alloc: Global, command: &[u8], line: &[u8]) -> Result<Option<Line>, LineFault>
+    ensures line { Tells result (wire_in command.now line.now) }
+    ensures fits { IfOk result (λ line. IfSome line LineFits) }
 {
     if command == b"in".as_slice() {
         return read_wire_frame(alloc, line);
@@ -197,9 +196,9 @@ fn read_wire(alloc: Global, command: &[u8], line: &[u8]) -> Result<Line, LineFau
 }
 
 #[tactic(auto, unfolding(crate::specs::Lines::store_in))]
-fn read_store(alloc: Global, command: &[u8], line: &[u8]) -> Result<Line, LineFault>
-    ensures line { Gives result (store_in command.now line.now) }
-    ensures fits { IfOk result LineFits }
+fn read_store(alloc: Global, command: &[u8], line: &[u8]) -> Result<Option<Line>, LineFault>
+    ensures line { Tells result (store_in command.now line.now) }
+    ensures fits { IfOk result (λ line. IfSome line LineFits) }
 {
     if command == b"answer".as_slice() {
         return read_store_answer(alloc, line);
@@ -214,9 +213,14 @@ fn read_store(alloc: Global, command: &[u8], line: &[u8]) -> Result<Line, LineFa
 }
 
 #[tactic(auto, unfolding(crate::specs::Lines::page_in))]
-fn read_page(alloc: Global, who: &[u8], command: &[u8], line: &[u8]) -> Result<Line, LineFault>
-    ensures line { Gives result (page_in who.now command.now line.now) }
-    ensures fits { IfOk result LineFits }
+fn read_page(
+    alloc: Global,
+    who: &[u8],
+    command: &[u8],
+    line: &[u8],
+) -> Result<Option<Line>, LineFault>
+    ensures line { Tells result (page_in who.now command.now line.now) }
+    ensures fits { IfOk result (λ line. IfSome line LineFits) }
 {
     if command == b"go".as_slice() {
         return read_go(alloc, who, line);
@@ -238,9 +242,14 @@ fn read_page(alloc: Global, who: &[u8], command: &[u8], line: &[u8]) -> Result<L
 }
 
 #[tactic(auto, unfolding(crate::specs::Lines::net_in))]
-fn read_net(alloc: Global, who: &[u8], command: &[u8], line: &[u8]) -> Result<Line, LineFault>
-    ensures line { Gives result (net_in who.now command.now line.now) }
-    ensures fits { IfOk result LineFits }
+fn read_net(
+    alloc: Global,
+    who: &[u8],
+    command: &[u8],
+    line: &[u8],
+) -> Result<Option<Line>, LineFault>
+    ensures line { Tells result (net_in who.now command.now line.now) }
+    ensures fits { IfOk result (λ line. IfSome line LineFits) }
 {
     if command == b"flow".as_slice() {
         let (proto, line) = split_word(line);
@@ -266,9 +275,9 @@ fn read_net(alloc: Global, who: &[u8], command: &[u8], line: &[u8]) -> Result<Li
 }
 
 #[tactic(auto, unfolding(crate::specs::Lines::flow_in))]
-fn read_flow(who: &[u8], proto: &[u8], line: &[u8]) -> Result<Line, LineFault>
-    ensures line { Gives result (flow_in who.now proto.now line.now) }
-    ensures fits { IfOk result LineFits }
+fn read_flow(who: &[u8], proto: &[u8], line: &[u8]) -> Result<Option<Line>, LineFault>
+    ensures line { Tells result (flow_in who.now proto.now line.now) }
+    ensures fits { IfOk result (λ line. IfSome line LineFits) }
 {
     if proto == b"tcp".as_slice() {
         return read_bind(Proto::Tcp, who, line);
@@ -286,9 +295,9 @@ fn read_cookie(
     who: &[u8],
     command: &[u8],
     line: &[u8],
-) -> Result<Line, LineFault>
-    ensures line { Gives result (cookie_in side who.now command.now line.now) }
-    ensures fits { IfOk result LineFits }
+) -> Result<Option<Line>, LineFault>
+    ensures line { Tells result (cookie_in side who.now command.now line.now) }
+    ensures fits { IfOk result (λ line. IfSome line LineFits) }
 {
     if command == b"set".as_slice() {
         return read_cookie_set(alloc, side, who, line);

@@ -17,6 +17,7 @@ use ibos_kinds::{Bytes, Instance, Memory, Rule};
 use ibos_text::TextHasher;
 use indexmap::IndexMap;
 use std::alloc::Global;
+use std::hash::BuildHasherDefault;
 use std::marker::Model;
 
 const MAX_OBJECT: usize = 2_048;

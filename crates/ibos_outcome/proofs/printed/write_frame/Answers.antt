@@ -10,13 +10,13 @@ pub returns-in_err-push_eight : goal.returns-in_err-push_eight
 returns-in_err-push_eight c =
     let p = err_from_is_err_and c.from_residual.result c.from_residual.ensures.1 in
     let line = frame_spelled c.args.digits.now _ _ _ (hex_text c.args.bytes.now) c.args.who c.args.flow
-        (c.as_bytes-tab.ensures.value ∙ c.format.ensures.text) (c.as_bytes-ord.ensures.value ∙ c.format-2.ensures.text) (c.as_bytes-flow.ensures.value ∙ c.format-3.ensures.text) in
+    (c.as_bytes-tab.ensures.value ∙ c.format.ensures.text) (c.as_bytes-ord.ensures.value ∙ c.format-2.ensures.text) (c.as_bytes-flow.ensures.value ∙ c.format-3.ensures.text) in
     let P : List ℕ → Type 0 = λ x. IsCutShort c.args.text.now c.push_eight.new.text x in
     rw p.1 (subst P line (IsCutShort-first c.args.text.now c.push_eight.new.text _ (hex_text c.args.bytes.now ++ codes "\n") c.in_err-push_eight.ensures))
 
 pub returns : goal.returns
 returns c =
     let line = frame_spelled c.args.digits.now _ _ _ (hex_text c.args.bytes.now) c.args.who c.args.flow
-        (c.as_bytes-tab.ensures.value ∙ c.format.ensures.text) (c.as_bytes-ord.ensures.value ∙ c.format-2.ensures.text) (c.as_bytes-flow.ensures.value ∙ c.format-3.ensures.text) in
+    (c.as_bytes-tab.ensures.value ∙ c.format.ensures.text) (c.as_bytes-ord.ensures.value ∙ c.format-2.ensures.text) (c.as_bytes-flow.ensures.value ∙ c.format-3.ensures.text) in
     let P : List ℕ → Type 0 = λ x. Appends c.write_hex.result c.args.text.now c.write_hex.new.text x in
     subst P line (Appends-second c.write_hex.result c.args.text.now c.push_eight.new.text c.write_hex.new.text _ (hex_text c.args.bytes.now ++ codes "\n") c.in_ok-push_eight.ensures c.write_hex.ensures)

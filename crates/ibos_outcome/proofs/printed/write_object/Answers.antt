@@ -10,15 +10,15 @@ pub returns-in_err-push_twelve : goal.returns-in_err-push_twelve
 returns-in_err-push_twelve c =
     let p = err_from_is_err_and c.from_residual.result c.from_residual.ensures.1 in
     let line = object_spelled c.args.digits.now _ _ _ _ (hex_text c.args.bytes.now) c.args.who c.args.request c.args.version
-        (c.as_bytes-tab.ensures.value ∙ c.format.ensures.text) (c.as_bytes-ord.ensures.value ∙ c.format-2.ensures.text)
-        (c.as_bytes-request.ensures.value ∙ c.format-3.ensures.text) (c.as_bytes-version.ensures.value ∙ c.format-4.ensures.text) in
+    (c.as_bytes-tab.ensures.value ∙ c.format.ensures.text) (c.as_bytes-ord.ensures.value ∙ c.format-2.ensures.text)
+    (c.as_bytes-request.ensures.value ∙ c.format-3.ensures.text) (c.as_bytes-version.ensures.value ∙ c.format-4.ensures.text) in
     let P : List ℕ → Type 0 = λ x. IsCutShort c.args.text.now c.push_twelve.new.text x in
     rw p.1 (subst P line (IsCutShort-first c.args.text.now c.push_twelve.new.text _ (hex_text c.args.bytes.now ++ codes "\n") c.in_err-push_twelve.ensures))
 
 pub returns : goal.returns
 returns c =
     let line = object_spelled c.args.digits.now _ _ _ _ (hex_text c.args.bytes.now) c.args.who c.args.request c.args.version
-        (c.as_bytes-tab.ensures.value ∙ c.format.ensures.text) (c.as_bytes-ord.ensures.value ∙ c.format-2.ensures.text)
-        (c.as_bytes-request.ensures.value ∙ c.format-3.ensures.text) (c.as_bytes-version.ensures.value ∙ c.format-4.ensures.text) in
+    (c.as_bytes-tab.ensures.value ∙ c.format.ensures.text) (c.as_bytes-ord.ensures.value ∙ c.format-2.ensures.text)
+    (c.as_bytes-request.ensures.value ∙ c.format-3.ensures.text) (c.as_bytes-version.ensures.value ∙ c.format-4.ensures.text) in
     let P : List ℕ → Type 0 = λ x. Appends c.write_hex.result c.args.text.now c.write_hex.new.text x in
     subst P line (Appends-second c.write_hex.result c.args.text.now c.push_twelve.new.text c.write_hex.new.text _ (hex_text c.args.bytes.now ++ codes "\n") c.in_ok-push_twelve.ensures c.write_hex.ensures)
