@@ -1,5 +1,5 @@
 // The lines of a script, and how it ends.
-ghost use Rattle.std.specs.Prelude.{◌≡◌, ◌≤◌, ◌<◌, ◌+◌, ◌^◌, List, ℕ, true, IfOk, IfErr};
+ghost use Rattle.std.specs.Prelude.{◌≡◌, ◌≢◌, ◌≤◌, ◌<◌, ◌+◌, ◌^◌, List, ℕ, true, IfOk, IfErr};
 ghost use Rattle.std.specs.Prelude.{IfSome, OnErr, OnOk};
 ghost use Rattle.ibos_kinds.specs.Limits.{Fits};
 ghost use Rattle.ibos_kinds.specs.Outside.{Rose};
@@ -15,7 +15,7 @@ use crate::capture::Frames;
 use crate::fault::Fault;
 use crate::gather::hand_over_if_much;
 use ibos_kernel::Kernel;
-use ibos_kinds::{Act, Bytes, Outcome, Sink};
+use ibos_kinds::{Act, Bytes, Memory, Outcome, Sink};
 use ibos_model::{
     frames_are_fronts, frames_are_sent_in_turn, runs_go_on, sent_frames_are_fronts,
     texts_are_fronts,
@@ -84,11 +84,22 @@ pub fn serve_line<N: Nic, K: Sink>(
         Ok(Some(Line::NextFrame)) => {
             serve_frame(alloc, kernel, number, frames, outcome, nic, text, sink)
         }
-        Err(LineFault::Memory) => Err(Fault::Memory),
-        Err(fault) => Ok(Some(End::Refused {
-            line: number,
-            fault: *fault,
-        })),
+        Err(fault) => {
+            let end = end_at(number, *fault)?;
+            Ok(Some(end))
+        }
+    }
+}
+
+// How a script ends at the fault of a line, unless that is want of memory.
+fn end_at(line: u32, fault: LineFault) -> Result<End, Memory>
+    ensures refused { IfOk result (λ end.
+        (end ≡ End.Refused line fault) × (fault ≢ LineFault.Memory)) }
+    ensures memory { OnErr result (fault ≡ LineFault.Memory) }
+{
+    match fault {
+        LineFault::Memory => Err(Memory),
+        fault => Ok(End::Refused { line, fault }),
     }
 }
 

@@ -8,3 +8,6 @@ returns-in_err-text-clause-broken g c = on_err _ _ (untouched_if _ _ _ _ refl c.
 
 pub returns-clause-broken : goal.returns-clause-broken
 returns-clause-broken g c = handed_if _ _ _ _ _ _ _ c.in-Err.ensures.broken (front_of _ _ _ _ c.in_ok-hand_over-in-Err.ensures.all)
+
+pub returns-in_err-hand_over-in-Err-clause-broken : goal.returns-in_err-hand_over-in-Err-clause-broken
+returns-in_err-hand_over-in-Err-clause-broken g c = on_err _ _ (handed_if _ _ _ _ _ _ _ c.in-Err.ensures.broken c.in_err-hand_over-in-Err.ensures.front)

@@ -1,6 +1,8 @@
-use Rattle.std.proofs.Common.{rules, ◌≡◌, List, ℕ, ap, sym, Some, Ok, Err, Option, Result, subst, arith}
+use Rattle.std.proofs.Common.{rules, ◌≡◌, ◌≢◌, refl, List, ℕ, ap, sym, Some, Ok, Err, Option, Result, subst, arith}
 use Rattle.std.specs.Prelude.{IfOk, OnErr}
 use Rattle.ibos_script.specs.declared.fault.LineFault.{LineFault}
+use Rattle.ibos_script.specs.declared.fault.LineFault.TheVariants.{Long, Byte, Word, Count, Number, Hex, Memory}
+use Rattle.ibos_script.specs.Faults.{Gives}
 use Rattle.ibos_script.specs.declared.lines.Line.{Line}
 use Rattle.ibos_script.specs.declared.lines.Line.TheVariants.{Act as ActLine, NextFrame}
 use Rattle.ibos_script.specs.Lines.{line_in}
@@ -42,13 +44,29 @@ returns-in-Ok-Some-NextFrame-clause-stopped g c =
     (g.N.Nic.regs c.args.nic.now) (g.N.Nic.log c.args.nic.now) (g.N.Nic.log c.serve_frame.new.nic)) in
     subst P (sym read) c.serve_frame.ensures.stopped
 
-pub returns-in-Err-Memory-clause-stopped : goal.returns-in-Err-Memory-clause-stopped
-returns-in-Err-Memory-clause-stopped g c = λ behind. none_stops c.texts_are_fronts.ensures c.frames_are_fronts.ensures c.sent_frames_are_fronts.ensures _ _ _ _ _ _
+refusal : (fault : LineFault) (wanted : Result (Option Line) LineFault) → fault ≢ Memory → Gives (Err fault) wanted → wanted ≡ Err fault
+refusal Memory wanted other gives = absurd (other refl)
+refusal Long wanted other gives = gives
+refusal Byte wanted other gives = gives
+refusal Word wanted other gives = gives
+refusal Number wanted other gives = gives
+refusal Hex wanted other gives = gives
+refusal Count wanted other gives = gives
+
+pub returns-in_err-end-in-Err-clause-stopped : goal.returns-in_err-end-in-Err-clause-stopped
+returns-in_err-end-in-Err-clause-stopped g c =
+    let stops : (behind : List (List ℕ) → Reading) → Stops (reading_by c.args.number (line_in c.args.line.now) c.args.frames.now behind) (g.K.Sink.taken c.args.sink.now) (g.K.Sink.taken c.args.sink.now) c.args.text.now c.args.text.now c.args.kernel.now
+    (g.N.Nic.regs c.args.nic.now) (g.N.Nic.log c.args.nic.now) (g.N.Nic.log c.args.nic.now)
+    = λ behind. none_stops c.texts_are_fronts.ensures c.frames_are_fronts.ensures c.sent_frames_are_fronts.ensures _ _ _ _ _ _ in
+    on_err _ _ stops
 
 pub returns : goal.returns
 returns g c =
-    let read : line_in c.args.line.now ≡ Err c.in-Err.fault = search rules in
-    record {
+    let refused = c.in_ok-end-in-Err.ensures.refused in
+    let given : Gives (Err c.in-Err.fault) (line_in c.args.line.now) =
+    subst (λ (r : Result (Option Line) LineFault). Gives r (line_in c.args.line.now)) c.in-Err.is c.read_line.ensures.line in
+    let read : line_in c.args.line.now ≡ Err c.in-Err.fault = refusal c.in-Err.fault _ refused.1 given in
+    rw refused.0 (record {
       served = λ behind. none_serves _ _ _ _ _ _ _ (ap (λ (r : Result (Option Line) LineFault). reading_by c.args.number r c.args.frames.now behind) read);
       stopped = tt;
       of_script = search rules;
@@ -57,4 +75,4 @@ returns g c =
       acts = omega arith;
       later = omega arith;
       cause = tt;
-    }
+    })
