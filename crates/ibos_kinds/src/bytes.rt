@@ -1,5 +1,5 @@
 // Bytes that contracts see as a list, and the answer of a call that is out of memory.
-ghost use Rattle.std.specs.Prelude.{◌≡◌, ◌++◌, ◌==◌, [], length, IfOk, OnOk, OnErr};
+ghost use Rattle.std.specs.Prelude.{◌≡◌, ◌≤◌, ◌++◌, ◌==◌, [], length, IfOk, OnOk, OnErr};
 
 use arrayvec::ArrayVec;
 use std::alloc::{AllocError, AllocFailed, Global};
@@ -101,14 +101,17 @@ impl Bytes {
     pub fn from_slice(alloc: Global, bytes: &[u8]) -> Result<Bytes, Memory>
         ensures { IfOk result (λ made. made ≡ bytes.now) }
     {
-        let mut short = ArrayVec::new();
-        if short.try_extend_from_slice(bytes).is_ok() {
-            return Ok(Bytes {
-                kept: Kept::Short(alloc, short),
-            });
+        if bytes.len() > SHORT {
+            let long = Vec::from_slice(alloc, bytes)?;
+            return Ok(Bytes::from(long));
         }
-        let long = Vec::from_slice(alloc, bytes)?;
-        Ok(Bytes::from(long))
+        let mut short = ArrayVec::new();
+        if short.try_extend_from_slice(bytes).is_err() {
+            unreachable!()
+        }
+        Ok(Bytes {
+            kept: Kept::Short(alloc, short),
+        })
     }
 
     /// The bytes, lent.
@@ -158,8 +161,7 @@ impl Bytes {
                 if short.remaining_capacity() >= more {
                     return Ok(());
                 }
-                let mut long = Vec::from_slice(*alloc, short.as_slice())?;
-                long.reserve(more)?;
+                let long = moved_out(*alloc, short.as_slice(), more)?;
                 self.kept = Kept::Long(long);
                 Ok(())
             }
@@ -190,7 +192,7 @@ impl Bytes {
                 if short.try_extend_from_slice(bytes).is_ok() {
                     return Ok(());
                 }
-                let mut long = Vec::from_slice(*alloc, short.as_slice())?;
+                let mut long = moved_out(*alloc, short.as_slice(), bytes.len())?;
                 long.extend_from_slice(bytes)?;
                 self.kept = Kept::Long(long);
                 Ok(())
@@ -209,4 +211,15 @@ impl Bytes {
         let copy = Bytes::from_slice(alloc, self.as_slice())?;
         Ok(copy)
     }
+}
+
+// A vector with what lay in the value, and room for so many more bytes: taken at once.
+fn moved_out(alloc: Global, short: &[u8], more: usize) -> Result<Vec<u8>, Memory>
+    requires { length short.now ≤ SHORT }
+    ensures { IfOk result (λ long. long.items ≡ short.now) }
+{
+    let mut long = Vec::new(alloc);
+    long.reserve(SHORT.saturating_add(more))?;
+    long.extend_from_slice(short)?;
+    Ok(long)
 }

@@ -203,7 +203,9 @@ impl Outcome {
         }
     }
 
-    /// Appends an item, or drops it where there is no memory for it.
+    /// Appends an item, or drops it where there is no memory for it. Part of its callers, so that an
+    /// item is written where it stays, and not moved there.
+    #[inline(always)]
     pub fn push(&mut self, item: Item) -> Result<(), Memory>
         ensures head { self.new.head ≡ self.old.head }
         ensures ok { OnOk result (self.new.items ≡ self.old.items ++ item ∷ []) }

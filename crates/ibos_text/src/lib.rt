@@ -1,4 +1,5 @@
-//! Cuts texts into lines, and lines into words and parts, without copying them, and hashes short ones.
+//! Cuts texts into lines, and lines into words and parts, without copying them, and hashes short
+//! ones.
 #![tactic(auto)]
 
 mod hash;
