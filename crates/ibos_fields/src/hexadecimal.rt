@@ -1,10 +1,10 @@
 // Bytes that are written in hexadecimal.
 ghost use Rattle.std.specs.Prelude.{◌≡◌, ◌*◌, None, Some, length, if◌then◌else◌, IfOk};
 ghost use Rattle.std.specs.Option.{unwrap_or};
-ghost use Rattle.hex.specs.Hex.{decode_pairs, encode_lower, hex_digit_value};
+ghost use Rattle.hex.specs.Hex.{decode_pairs, hex_digit_value};
 ghost use Rattle.ibos_fields.specs.Fields.{bytes_named, hex_in};
 
-use crate::lanes::{decode_block, encode_block};
+use crate::lanes::decode_block;
 use ibos_kinds::{Bytes, Memory};
 use std::alloc::Global;
 
@@ -72,21 +72,4 @@ fn digit_code(byte: u8) -> u8
         b'0'..=b'9' => byte - b'0',
         _ => NO_DIGIT,
     }
-}
-
-/// Writes two digits for each byte, in lower case.
-pub fn write_digits(bytes: &[u8], digits: &mut [u8])
-    requires { length digits.old ≡ 2 * length bytes.now }
-    ensures { digits.new ≡ encode_lower bytes.now }
-{
-    let mut at = 0;
-    while bytes.len() - at >= 16 {
-        let (first, second) = encode_block(&bytes[at..]);
-        digits[2 * at..2 * at + 16].copy_from_slice(&first);
-        digits[2 * at + 16..2 * at + 32].copy_from_slice(&second);
-        at += 16;
-    }
-    let Ok(()) = hex::encode_to_slice(&bytes[at..], &mut digits[2 * at..]) else {
-        unreachable!()
-    };
 }

@@ -60,7 +60,7 @@ fn are_digits(codes: u8x16) -> bool
     codes.simd_ge(u8x16::splat(16)).to_bitmask() == 0
 }
 
-/// The 32 digits of the first 16 bytes, in two halves.
+/// The first 16 bytes in hexadecimal: 32 lower-case digits, in two halves.
 #[inline(always)]
 pub fn encode_block(bytes: &[u8]) -> ([u8; 16], [u8; 16])
     requires { 16 ≤ length bytes.now }

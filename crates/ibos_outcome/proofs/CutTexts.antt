@@ -35,6 +35,9 @@ four_more a b c d e f g h = simp append_assoc
 pub eight_more : (a b c d e f g h i j k l : List ℕ) → a ++ b ++ c ++ d ++ e ++ f ++ g ++ h ++ (i ++ j ++ k ++ l) ≡ a ++ b ++ c ++ d ++ e ++ f ++ g ++ h ++ i ++ j ++ k ++ l
 eight_more a b c d e f g h i j k l = simp append_assoc
 
+pub named_more : (x y m n a b c d e f g h : List ℕ) → x ++ y ++ (m ++ n) ++ (a ++ b ++ c ++ d ++ e ++ f ++ g ++ h) ≡ x ++ y ++ m ++ n ++ a ++ b ++ c ++ d ++ e ++ f ++ g ++ h
+named_more x y m n a b c d e f g h = simp append_assoc
+
 -- some of the pieces were written, and the next was not
 pub IsCutShort-pieces : {X : Type 0} (f : X → List ℕ) (xs : List X) (i : ℕ) (old new : List ℕ) → new ≡ old ++ flat_map f (take i xs) → IsCutShort old new (flat_map f xs)
 IsCutShort-pieces f xs i old new written = record {

@@ -1,5 +1,5 @@
 // The text of an outcome.
-ghost use Rattle.std.specs.Prelude.{◌≡◌, ◌≤◌, ◌++◌, [], ◌∷◌, length, IfOk, OnOk, OnErr, codes};
+ghost use Rattle.std.specs.Prelude.{◌≡◌, ◌<◌, ◌++◌, [], ◌∷◌, length, IfOk, OnOk, OnErr, codes};
 ghost use Rattle.std.specs.Prelude.{decimal};
 ghost use Rattle.hex.specs.Hex.{encode_lower};
 ghost use Rattle.ibos_outcome.specs.Printed as spec;
@@ -7,13 +7,13 @@ ghost use Rattle.ibos_outcome.specs.Printed.{Appends, IsCutShort, outcome_text, 
 ghost use Rattle.ibos_outcome.specs.Printed.{head_text, item_text, items_text};
 ghost use Rattle.ibos_outcome.specs.Printed.{addr_text, hex_text, value_text, verdict_text};
 
-use ibos_fields::write_digits;
+use ibos_fields::encode_block;
 use ibos_kinds::{Bytes, Endpoint, Handle, Head, Instance, Item, Memory, Outcome, Verdict};
 use itoa::Buffer;
 use std::alloc::Global;
 
 // So many bytes are written in hexadecimal at once.
-const PIECE: usize = 128;
+const BLOCK: usize = 16;
 
 /// Appends the lines of an outcome, each with the act's number: one for its head, and one for each
 /// item. Where memory runs out a front of these lines is appended.
@@ -136,7 +136,6 @@ pub fn write_item(alloc: Global, digits: &[u8], item: &Item, text: &mut Bytes) -
 }
 
 // A line to an instance.
-#[tactic(auto, unfolding(crate::specs::Printed::line_text, crate::specs::Printed::instance_text))]
 fn write_told(
     digits: &[u8],
     who: Instance,
@@ -147,26 +146,9 @@ fn write_told(
     ensures { Appends result text.old text.new
         (line_text digits.now (spec.instance_text who ++ word.now ++ told.now)) }
 {
-    let mut tab = Buffer::new();
-    let mut ord = Buffer::new();
-    let tab = tab.format(who.tab).as_bytes();
-    let ord = ord.format(who.ord).as_bytes();
-    write_parts(digits, tab, ord, word, told, text)
-}
-
-#[tactic(auto, unfolding(crate::specs::Printed::line_text))]
-fn write_parts<'a>(
-    digits: &'a [u8],
-    tab: &'a [u8],
-    ord: &'a [u8],
-    word: &'a [u8],
-    told: &'a [u8],
-    text: &mut Bytes,
-) -> Result<(), Memory>
-    ensures { Appends result text.old text.new
-        (line_text digits.now ((tab.now ++ codes "." ++ ord.now) ++ word.now ++ told.now)) }
-{
-    push_eight(text, digits, b" ", tab, b".", ord, word, told, b"\n")
+    push_named(
+        text, digits, b"", who, word, told, b"\n", b"", b"", b"", b"", b"",
+    )
 }
 
 // A byte as two hexadecimal digits.
@@ -284,7 +266,6 @@ fn addr_digits(alloc: Global, addr: u32) -> Result<Bytes, Memory>
 }
 
 // A frame for a flow of an instance.
-#[tactic(auto, unfolding(crate::specs::Printed::line_text, crate::specs::Printed::instance_text))]
 fn write_frame(
     digits: &[u8],
     who: Instance,
@@ -296,11 +277,11 @@ fn write_frame(
         (line_text digits.now (spec.instance_text who ++ codes " frame "
         ++ decimal flow ++ codes " " ++ hex_text bytes.now)) }
 {
-    let mut buffers = (Buffer::new(), Buffer::new(), Buffer::new());
-    let tab = buffers.0.format(who.tab).as_bytes();
-    let ord = buffers.1.format(who.ord).as_bytes();
-    let flow = buffers.2.format(flow).as_bytes();
-    push_eight(text, digits, b" ", tab, b".", ord, b" frame ", flow, b" ")?;
+    let mut buffer = Buffer::new();
+    let flow = buffer.format(flow).as_bytes();
+    push_named(
+        text, digits, b"", who, b" frame ", flow, b" ", b"", b"", b"", b"", b"",
+    )?;
     write_hex(bytes, text)
 }
 
@@ -336,7 +317,6 @@ fn write_accepted(
 }
 
 // An object for a request of an instance.
-#[tactic(auto, unfolding(crate::specs::Printed::line_text, crate::specs::Printed::instance_text))]
 fn write_object(
     digits: &[u8],
     who: Instance,
@@ -349,23 +329,20 @@ fn write_object(
         (line_text digits.now (spec.instance_text who ++ codes " object " ++ decimal request
         ++ codes " " ++ decimal version ++ codes " " ++ hex_text bytes.now)) }
 {
-    let mut buffers = (Buffer::new(), Buffer::new(), Buffer::new(), Buffer::new());
-    let tab = buffers.0.format(who.tab).as_bytes();
-    let ord = buffers.1.format(who.ord).as_bytes();
-    let request = buffers.2.format(request).as_bytes();
-    let version = buffers.3.format(version).as_bytes();
-    push_twelve(
+    let mut buffers = (Buffer::new(), Buffer::new());
+    let request = buffers.0.format(request).as_bytes();
+    let version = buffers.1.format(version).as_bytes();
+    push_named(
         text,
         digits,
-        b" ",
-        tab,
-        b".",
-        ord,
+        b"",
+        who,
         b" object ",
         request,
         b" ",
         version,
         b" ",
+        b"",
         b"",
         b"",
     )?;
@@ -407,30 +384,25 @@ fn write_put<'a>(
 }
 
 // A request for an object.
-#[tactic(auto, unfolding(crate::specs::Printed::line_text, crate::specs::Printed::instance_text))]
-fn write_ask<'a>(
-    digits: &'a [u8],
+fn write_ask(
+    digits: &[u8],
     who: Instance,
     request: u32,
-    origin: &'a [u8],
-    key: &'a [u8],
+    origin: &[u8],
+    key: &[u8],
     text: &mut Bytes,
 ) -> Result<(), Memory>
     ensures { Appends result text.old text.new
         (line_text digits.now (codes "store ask " ++ spec.instance_text who ++ codes " "
         ++ decimal request ++ codes " " ++ origin.now ++ codes " " ++ key.now)) }
 {
-    let mut buffers = (Buffer::new(), Buffer::new(), Buffer::new());
-    let tab = buffers.0.format(who.tab).as_bytes();
-    let ord = buffers.1.format(who.ord).as_bytes();
-    let request = buffers.2.format(request).as_bytes();
-    push_twelve(
+    let mut buffer = Buffer::new();
+    let request = buffer.format(request).as_bytes();
+    push_named(
         text,
         digits,
-        b" store ask ",
-        tab,
-        b".",
-        ord,
+        b" store ask",
+        who,
         b" ",
         request,
         b" ",
@@ -438,6 +410,7 @@ fn write_ask<'a>(
         b" ",
         key,
         b"\n",
+        b"",
     )
 }
 
@@ -481,7 +454,6 @@ fn write_lent(digits: &[u8], handle: Handle, text: &mut Bytes) -> Result<(), Mem
 }
 
 // A line to an instance that ends in two words.
-#[tactic(auto, unfolding(crate::specs::Printed::instance_text))]
 fn write_told_two(
     digits: &[u8],
     who: Instance,
@@ -494,29 +466,8 @@ fn write_told_two(
         (line_text digits.now (spec.instance_text who ++ word.now ++ first.now
         ++ codes " " ++ second.now)) }
 {
-    let mut tab = Buffer::new();
-    let mut ord = Buffer::new();
-    let tab = tab.format(who.tab).as_bytes();
-    let ord = ord.format(who.ord).as_bytes();
-    write_told_parts(digits, tab, ord, word, first, second, text)
-}
-
-#[tactic(auto, unfolding(crate::specs::Printed::line_text))]
-fn write_told_parts<'a>(
-    digits: &'a [u8],
-    tab: &'a [u8],
-    ord: &'a [u8],
-    word: &'a [u8],
-    first: &'a [u8],
-    second: &'a [u8],
-    text: &mut Bytes,
-) -> Result<(), Memory>
-    ensures { Appends result text.old text.new
-        (line_text digits.now ((tab.now ++ codes "." ++ ord.now)
-        ++ word.now ++ first.now ++ codes " " ++ second.now)) }
-{
-    push_twelve(
-        text, digits, b" ", tab, b".", ord, word, first, b" ", second, b"\n", b"", b"",
+    push_named(
+        text, digits, b"", who, word, first, b" ", second, b"\n", b"", b"", b"",
     )
 }
 
@@ -607,27 +558,28 @@ fn push_hex(text: &mut Bytes, bytes: &[u8]) -> Result<(), Memory>
     push_digits(text, bytes)
 }
 
-// Appends two digits for each byte, those of a few bytes at a time.
+// Appends two digits for each byte: those of 16 bytes at a time, and then of the few that are left.
 fn push_digits(text: &mut Bytes, bytes: &[u8]) -> Result<(), Memory>
     ensures { Appends result text.old text.new (encode_lower bytes.now) }
 {
     let mut at = 0;
-    while at < bytes.len() {
-        let few = PIECE.min(bytes.len() - at);
-        push_few(text, &bytes[at..at + few])?;
-        at += few;
+    while bytes.len() - at >= BLOCK {
+        let (first, second) = encode_block(&bytes[at..]);
+        push_two(text, &first, &second)?;
+        at += BLOCK;
     }
-    Ok(())
+    push_few(text, &bytes[at..])
 }
 
 fn push_few(text: &mut Bytes, bytes: &[u8]) -> Result<(), Memory>
-    requires few { length bytes.now ≤ 128 }
-    ensures ok { OnOk result (text.new ≡ text.old ++ encode_lower bytes.now) }
-    ensures err { OnErr result (text.new ≡ text.old) }
+    requires few { length bytes.now < 16 }
+    ensures { Appends result text.old text.new (encode_lower bytes.now) }
 {
-    let mut room = [0u8; 2 * PIECE];
+    let mut room = [0u8; 2 * BLOCK];
     let digits = &mut room[..2 * bytes.len()];
-    write_digits(bytes, digits);
+    let Ok(()) = hex::encode_to_slice(bytes, digits) else {
+        unreachable!()
+    };
     text.push_slice(digits)
 }
 
@@ -691,4 +643,67 @@ fn push_twelve(
 {
     push_eight(text, a, b, c, d, e, f, g, h)?;
     push_four(text, i, j, k, l)
+}
+
+// Appends what most lines begin with, the act's number, who else is told or nothing, and an
+// instance, and then pieces.
+#[inline(always)]
+fn push_named(
+    text: &mut Bytes,
+    digits: &[u8],
+    said: &[u8],
+    who: Instance,
+    a: &[u8],
+    b: &[u8],
+    c: &[u8],
+    d: &[u8],
+    e: &[u8],
+    f: &[u8],
+    g: &[u8],
+    h: &[u8],
+) -> Result<(), Memory>
+    ensures { Appends result text.old text.new
+        (digits.now ++ said.now ++ codes " " ++ spec.instance_text who
+        ++ a.now ++ b.now ++ c.now ++ d.now ++ e.now ++ f.now ++ g.now ++ h.now) }
+{
+    push_front(text, digits, said, who)?;
+    push_eight(text, a, b, c, d, e, f, g, h)
+}
+
+#[inline(always)]
+fn push_front(
+    text: &mut Bytes,
+    digits: &[u8],
+    said: &[u8],
+    who: Instance,
+) -> Result<(), Memory>
+    ensures { Appends result text.old text.new
+        (digits.now ++ said.now ++ (codes " " ++ spec.instance_text who)) }
+{
+    push_two(text, digits, said)?;
+    push_instance(text, who)
+}
+
+// Appends an instance behind a space. Both its numbers have one digit, most of the time, and then
+// all is one piece.
+#[inline(always)]
+fn push_instance(text: &mut Bytes, who: Instance) -> Result<(), Memory>
+    ensures { Appends result text.old text.new (codes " " ++ spec.instance_text who) }
+{
+    if who.tab < 10 && who.ord < 10 {
+        let digits = [b' ', b'0' + who.tab, b'.', b'0' + who.ord];
+        return push_two(text, &digits, b"");
+    }
+    push_long_instance(text, who)
+}
+
+#[inline(never)]
+#[tactic(auto, unfolding(crate::specs::Printed::instance_text))]
+fn push_long_instance(text: &mut Bytes, who: Instance) -> Result<(), Memory>
+    ensures { Appends result text.old text.new (codes " " ++ spec.instance_text who) }
+{
+    let mut buffers = (Buffer::new(), Buffer::new());
+    let tab = buffers.0.format(who.tab).as_bytes();
+    let ord = buffers.1.format(who.ord).as_bytes();
+    push_four(text, b" ", tab, b".", ord)
 }

@@ -5,7 +5,6 @@ use Rattle.ibos_outcome.proofs.printed.write_ask.Goals as goal
 
 pub returns : goal.returns
 returns c =
-    let P : List ℕ → Type 0 = λ x. Appends c.push_twelve.result c.args.text.now c.push_twelve.new.text x in
-    subst P (ask_spelled c.args.digits.now _ _ _ c.args.origin.now c.args.key.now c.args.who c.args.request
-    (c.as_bytes-tab.ensures.value ∙ c.format.ensures.text) (c.as_bytes-ord.ensures.value ∙ c.format-2.ensures.text)
-    (c.as_bytes-request.ensures.value ∙ c.format-3.ensures.text)) c.push_twelve.ensures
+    let P : List ℕ → Type 0 = λ x. Appends c.push_named.result c.args.text.now c.push_named.new.text x in
+    subst P (ask_spelled c.args.digits.now _ c.args.origin.now c.args.key.now c.args.who c.args.request
+    (c.as_bytes-request.ensures.value ∙ c.format.ensures.text)) c.push_named.ensures

@@ -6,17 +6,15 @@ use Rattle.ibos_outcome.proofs.CutTexts.{IsCutShort-first, Appends-second}
 use Rattle.ibos_outcome.proofs.ToldLines.{frame_spelled}
 use Rattle.ibos_outcome.proofs.printed.write_frame.Goals as goal
 
-pub returns-in_err-push_eight : goal.returns-in_err-push_eight
-returns-in_err-push_eight c =
+pub returns-in_err-push_named : goal.returns-in_err-push_named
+returns-in_err-push_named c =
     let p = err_from_is_err_and c.from_residual.result c.from_residual.ensures.1 in
-    let line = frame_spelled c.args.digits.now _ _ _ (hex_text c.args.bytes.now) c.args.who c.args.flow
-    (c.as_bytes-tab.ensures.value ∙ c.format.ensures.text) (c.as_bytes-ord.ensures.value ∙ c.format-2.ensures.text) (c.as_bytes-flow.ensures.value ∙ c.format-3.ensures.text) in
-    let P : List ℕ → Type 0 = λ x. IsCutShort c.args.text.now c.push_eight.new.text x in
-    rw p.1 (subst P line (IsCutShort-first c.args.text.now c.push_eight.new.text _ (hex_text c.args.bytes.now ++ codes "\n") c.in_err-push_eight.ensures))
+    let line = frame_spelled c.args.digits.now _ (hex_text c.args.bytes.now) c.args.who c.args.flow (c.as_bytes-flow.ensures.value ∙ c.format.ensures.text) in
+    let P : List ℕ → Type 0 = λ x. IsCutShort c.args.text.now c.push_named.new.text x in
+    rw p.1 (subst P line (IsCutShort-first c.args.text.now c.push_named.new.text _ (hex_text c.args.bytes.now ++ codes "\n") c.in_err-push_named.ensures))
 
 pub returns : goal.returns
 returns c =
-    let line = frame_spelled c.args.digits.now _ _ _ (hex_text c.args.bytes.now) c.args.who c.args.flow
-    (c.as_bytes-tab.ensures.value ∙ c.format.ensures.text) (c.as_bytes-ord.ensures.value ∙ c.format-2.ensures.text) (c.as_bytes-flow.ensures.value ∙ c.format-3.ensures.text) in
+    let line = frame_spelled c.args.digits.now _ (hex_text c.args.bytes.now) c.args.who c.args.flow (c.as_bytes-flow.ensures.value ∙ c.format.ensures.text) in
     let P : List ℕ → Type 0 = λ x. Appends c.write_hex.result c.args.text.now c.write_hex.new.text x in
-    subst P line (Appends-second c.write_hex.result c.args.text.now c.push_eight.new.text c.write_hex.new.text _ (hex_text c.args.bytes.now ++ codes "\n") c.in_ok-push_eight.ensures c.write_hex.ensures)
+    subst P line (Appends-second c.write_hex.result c.args.text.now c.push_named.new.text c.write_hex.new.text _ (hex_text c.args.bytes.now ++ codes "\n") c.in_ok-push_named.ensures c.write_hex.ensures)

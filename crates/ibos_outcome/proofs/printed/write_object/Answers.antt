@@ -6,19 +6,15 @@ use Rattle.ibos_outcome.proofs.CutTexts.{IsCutShort-first, Appends-second}
 use Rattle.ibos_outcome.proofs.ToldLines.{object_spelled}
 use Rattle.ibos_outcome.proofs.printed.write_object.Goals as goal
 
-pub returns-in_err-push_twelve : goal.returns-in_err-push_twelve
-returns-in_err-push_twelve c =
+pub returns-in_err-push_named : goal.returns-in_err-push_named
+returns-in_err-push_named c =
     let p = err_from_is_err_and c.from_residual.result c.from_residual.ensures.1 in
-    let line = object_spelled c.args.digits.now _ _ _ _ (hex_text c.args.bytes.now) c.args.who c.args.request c.args.version
-    (c.as_bytes-tab.ensures.value ∙ c.format.ensures.text) (c.as_bytes-ord.ensures.value ∙ c.format-2.ensures.text)
-    (c.as_bytes-request.ensures.value ∙ c.format-3.ensures.text) (c.as_bytes-version.ensures.value ∙ c.format-4.ensures.text) in
-    let P : List ℕ → Type 0 = λ x. IsCutShort c.args.text.now c.push_twelve.new.text x in
-    rw p.1 (subst P line (IsCutShort-first c.args.text.now c.push_twelve.new.text _ (hex_text c.args.bytes.now ++ codes "\n") c.in_err-push_twelve.ensures))
+    let line = object_spelled c.args.digits.now _ _ (hex_text c.args.bytes.now) c.args.who c.args.request c.args.version (c.as_bytes-request.ensures.value ∙ c.format.ensures.text) (c.as_bytes-version.ensures.value ∙ c.format-2.ensures.text) in
+    let P : List ℕ → Type 0 = λ x. IsCutShort c.args.text.now c.push_named.new.text x in
+    rw p.1 (subst P line (IsCutShort-first c.args.text.now c.push_named.new.text _ (hex_text c.args.bytes.now ++ codes "\n") c.in_err-push_named.ensures))
 
 pub returns : goal.returns
 returns c =
-    let line = object_spelled c.args.digits.now _ _ _ _ (hex_text c.args.bytes.now) c.args.who c.args.request c.args.version
-    (c.as_bytes-tab.ensures.value ∙ c.format.ensures.text) (c.as_bytes-ord.ensures.value ∙ c.format-2.ensures.text)
-    (c.as_bytes-request.ensures.value ∙ c.format-3.ensures.text) (c.as_bytes-version.ensures.value ∙ c.format-4.ensures.text) in
+    let line = object_spelled c.args.digits.now _ _ (hex_text c.args.bytes.now) c.args.who c.args.request c.args.version (c.as_bytes-request.ensures.value ∙ c.format.ensures.text) (c.as_bytes-version.ensures.value ∙ c.format-2.ensures.text) in
     let P : List ℕ → Type 0 = λ x. Appends c.write_hex.result c.args.text.now c.write_hex.new.text x in
-    subst P line (Appends-second c.write_hex.result c.args.text.now c.push_twelve.new.text c.write_hex.new.text _ (hex_text c.args.bytes.now ++ codes "\n") c.in_ok-push_twelve.ensures c.write_hex.ensures)
+    subst P line (Appends-second c.write_hex.result c.args.text.now c.push_named.new.text c.write_hex.new.text _ (hex_text c.args.bytes.now ++ codes "\n") c.in_ok-push_named.ensures c.write_hex.ensures)
