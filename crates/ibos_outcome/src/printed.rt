@@ -671,12 +671,7 @@ fn push_named(
 }
 
 #[inline(always)]
-fn push_front(
-    text: &mut Bytes,
-    digits: &[u8],
-    said: &[u8],
-    who: Instance,
-) -> Result<(), Memory>
+fn push_front(text: &mut Bytes, digits: &[u8], said: &[u8], who: Instance) -> Result<(), Memory>
     ensures { Appends result text.old text.new
         (digits.now ++ said.now ++ (codes " " ++ spec.instance_text who)) }
 {

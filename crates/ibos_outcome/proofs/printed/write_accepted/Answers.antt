@@ -1,4 +1,4 @@
-use Rattle.std.proofs.Common.{◌≡◌, ◌∙◌, ℕ, List, ◌++◌, subst}
+use Rattle.std.proofs.Common.{◌∙◌, ℕ, List, ◌++◌, subst}
 use Rattle.std.specs.Prelude.{codes}
 use Rattle.std.proofs.lemmas.Result.{err_from_is_err_and}
 use Rattle.ibos_outcome.specs.Printed.{IsCutShort, Appends, hex_text}
