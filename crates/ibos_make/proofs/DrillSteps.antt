@@ -1,5 +1,5 @@
 -- A drill goes on act by act, and stays within its rounds.
-use Rattle.std.proofs.Common.{◌≡◌, ◌≢◌, ℕ, zero, suc, ◌+◌, ◌-◌, ◌*◌, ◌^◌, ◌<◌, ◌≤◌, ◌==◌, Bool, true, false, List, [], ◌∷◌, ◌++◌, length, drop, Option, Some, None, Result, Ok, Err, IfOk, IfSome, IsSome, ◌↔◌, slice_get, slice_index, replicate, refl, ap, sym, subst, ◌∙◌, arith}
+use Rattle.std.proofs.Common.{◌≡◌, ◌≢◌, ℕ, zero, suc, ◌+◌, ◌-◌, ◌*◌, ◌^◌, ◌<◌, ◌≤◌, ◌==◌, Bool, true, false, List, [], ◌∷◌, ◌++◌, length, drop, Option, Some, None, Result, Ok, Err, IfOk, IfSome, IsSome, OnOk, ◌↔◌, slice_get, slice_index, replicate, refl, ap, sym, subst, ◌∙◌, arith}
 use Rattle.std.proofs.Math.Seq.{drop-nil}
 use Rattle.std.proofs.lemmas.List.{drop-append-le, drop_all, length-append}
 use Rattle.std.proofs.lemmas.Option.{slice_get_within}
@@ -9,7 +9,8 @@ use Rattle.ibos_make.specs.declared.rounds.Counts.{Counts}
 use Rattle.ibos_make.specs.declared.rounds.Kind.{Kind}
 use Rattle.ibos_make.specs.declared.rounds.Kind.TheVariants.{Receive, Send, Cookies, Objects, Screen}
 use Rattle.ibos_make.specs.Drill.{ring_acts, post_acts, open_acts, opening_acts, first_counts, next_number, drawn, kind_of, tab_of, byte_of, acts_of, round_len, counts_after, with_next, round_acts, after_round, rounds_acts, drill_acts, Drilling, left, version_place}
-use Rattle.ibos_make.specs.Drilling.{HasRoom, IsWithin, next_in}
+use Rattle.ibos_make.specs.declared.rounds.Round.{Round}
+use Rattle.ibos_make.specs.Drilling.{HasRoom, IsDrawn, IsWithin, next_in}
 use Rattle.ibos_make.proofs.Places.{slice_get-front, slice_get-behind, drop-at, raised-below}
 
 -- THE ACTS BEFORE THE ROUNDS
@@ -78,12 +79,15 @@ pub drill-few : (seed rounds : ℕ) → length (drill_acts seed rounds) ≤ 86 +
 unfolding opening_acts
 drill-few seed rounds = omega (arith, length-append opening_acts (rounds_acts rounds (first_counts seed)), rounds-few rounds (first_counts seed))
 
--- the act of a round that is about what the number says
-pub act-in : (c : Counts) (kind : Kind) (t e place : ℕ) (act : Act)
-    → kind ≡ kind_of (drawn (next_number c.number)) → t ≡ tab_of (drawn (next_number c.number)) → e ≡ byte_of (drawn (next_number c.number))
-    → slice_get (acts_of kind t e c) place ≡ Some act → slice_get (round_acts c) place ≡ Some act
+-- a round that is about what the number says has these acts, and a place in it is that of one of them
+pub acts-are : (round : Round) (c : Counts) (kind : Kind) → round.kind ≡ kind → IsDrawn round c → acts_of kind round.tab round.byte c ≡ round_acts c
 unfolding round_acts
-act-in c kind t e place act hk ht he h = rw (hk, ht, he) at h
+acts-are round c kind is drawn_so = rw (sym is ∙ drawn_so.kind, drawn_so.tab, drawn_so.byte) refl
+
+pub place-in : (round : Round) (c : Counts) (kind : Kind) (place : ℕ) → round.kind ≡ kind → IsDrawn round c → place < length (round_acts c) → place < round_len kind
+place-in round c kind place is drawn_so within =
+    let len : round_len kind ≡ round_len (kind_of (drawn (next_number c.number))) = ap round_len (sym is ∙ drawn_so.kind) in
+    omega (arith, length-round c, len, within)
 
 pub after-is : (c after : Counts) (kind : Kind) (t e : ℕ)
     → kind ≡ kind_of (drawn (next_number c.number)) → t ≡ tab_of (drawn (next_number c.number)) → e ≡ byte_of (drawn (next_number c.number))
@@ -158,23 +162,23 @@ left-none d over none =
 pub some-comes : (act : Act) (before after : List Act) → before ≡ act ∷ after → (Some act ≡ None → before ≡ []) × (before ≡ [] → Some act ≡ None)
 some-comes act before after h = (λ none. cc, λ none. cc)
 
--- what was made is the act that comes, if there was memory for it
-pub made-next : {E : Type 0} (made : Result (Option Act) E) (acts : List Act) (place : ℕ) (whole rest : List Act)
-    → IfOk made (λ m. slice_get acts place ≡ m) → ((act : Act) → slice_get acts place ≡ Some act → whole ≡ act ∷ rest)
-    → IfOk made (λ next. IfSome next (λ act. whole ≡ act ∷ rest))
-made-next (Ok (Some act)) acts place whole rest at goes = goes act at
-made-next (Ok None) acts place whole rest at goes = tt
-made-next (Err e) acts place whole rest at goes = tt
+-- what was made is the act that comes, and the drill goes on, if there was memory for it
+pub goes-on : {E : Type 0} (made : Result (Option Act) E) (before after : Drilling) → before.opening ≡ 86 → 0 < before.rounds
+    → IfOk made (λ m. slice_get (round_acts before.counts) before.place ≡ m) → OnOk made (after ≡ next_in before)
+    → IfOk made (λ next. IfSome next (λ act. left before ≡ act ∷ left after))
+goes-on (Ok (Some act)) before after over some at next = left-round before act over some at ∙ ap (λ d. act ∷ left d) (sym next)
+goes-on (Ok None) before after over some at next = tt
+goes-on (Err e) before after over some at next = tt
 
-pub made-comes : {E : Type 0} (made : Result (Option Act) E) (acts : List Act) (place : ℕ) (whole rest : List Act)
-    → IfOk made (λ m. slice_get acts place ≡ m) → IfOk made (λ m. IsSome m) → ((act : Act) → slice_get acts place ≡ Some act → whole ≡ act ∷ rest)
-    → IfOk made (λ next. next ≡ None ↔ whole ≡ [])
-made-comes (Ok (Some act)) acts place whole rest at some goes = some-comes act whole rest (goes act at)
-made-comes (Ok None) acts place whole rest at some goes = absurd (no_some some)
+pub comes-on : {E : Type 0} (made : Result (Option Act) E) (before after : Drilling) → before.opening ≡ 86 → 0 < before.rounds
+    → IfOk made (λ m. slice_get (round_acts before.counts) before.place ≡ m) → IfOk made (λ m. IsSome m) → OnOk made (after ≡ next_in before)
+    → IfOk made (λ next. next ≡ None ↔ left before ≡ [])
+comes-on {E} (Ok (Some act)) before after over some at is next = some-comes act (left before) (left after) (goes-on {E = E} (Ok (Some act)) before after over some at next)
+comes-on (Ok None) before after over some at is next = absurd (no_some is)
   where
     no_some : IsSome {T = Act} None → ⊥
     no_some p = cc
-made-comes (Err e) acts place whole rest at some goes = tt
+comes-on (Err e) before after over some at is next = tt
 
 -- ROOM
 

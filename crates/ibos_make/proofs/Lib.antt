@@ -8,3 +8,4 @@ pub mod Built
 pub mod DrillHosts
 pub mod Places
 pub mod DrillSteps
+mod DrillTexts

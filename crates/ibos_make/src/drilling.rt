@@ -1,12 +1,15 @@
 // A drill: as many acts of all parties as are wanted, made from a number.
 ghost use Rattle.std.specs.Prelude.{◌≡◌, ◌↔◌, ◌∷◌, ◌<◌, ◌≤◌, ◌+◌, ◌*◌, [], None, length, IfOk};
-ghost use Rattle.std.specs.Prelude.{IfSome, OnErr};
+ghost use Rattle.std.specs.Prelude.{IfSome, IsSome, OnErr, OnOk, slice_get};
 ghost use Rattle.ibos_kinds.specs.Limits.{Fits};
-ghost use Rattle.ibos_make.specs.Drill.{drill_acts, drill_table, left};
+ghost use Rattle.ibos_make.specs.Drill.{drill_acts, drill_table, left, round_acts};
 ghost use Rattle.ibos_make.specs.Drilling.{next_in};
 
 use crate::opening::{OPENING, opening_act};
-use crate::rounds::{Counts, round_act, round_len};
+use crate::rounds::{
+    Counts, Kind, Round, cookie_act, object_act, receive_act, round_len, screen_act, send_act,
+    version_place,
+};
 use ibos_kinds::{Act, Memory};
 use ibos_origin::{Hosts, HostsFault};
 use std::alloc::Global;
@@ -43,8 +46,9 @@ pub fn drill_hosts(alloc: Global) -> Result<Hosts, Memory>
 pub struct Drill {
     // How many of the acts before the rounds came.
     opening: u8,
-    // How many rounds are not over, and how many acts of the first of these came.
+    // How many rounds are not over, what the first of these is about, and how many of its acts came.
     rounds: u32,
+    round: Round,
     place: u8,
     counts: Counts,
 }
@@ -57,9 +61,9 @@ impl Model for Drill {
     ghost view = { λ d.
         record { opening = d.opening; rounds = d.rounds; place = d.place; counts = d.counts } };
 
-    ghost use Rattle.ibos_make.specs.Drilling.{IsWithin};
+    ghost use Rattle.ibos_make.specs.Drilling.{IsDrawn, IsWithin};
 
-    ghost invariant = { λ d. IsWithin
+    ghost invariant = { λ d. IsDrawn d.round d.counts × IsWithin
         (record { opening = d.opening; rounds = d.rounds; place = d.place; counts = d.counts }) };
 }
 
@@ -69,11 +73,13 @@ impl Drill {
         ensures acts { left result ≡ drill_acts seed rounds }
         ensures few { length (left result) ≤ 86 + 6 * rounds }
     {
+        let counts = Counts::new(seed);
         Drill {
             opening: 0,
             rounds,
+            round: counts.round(),
             place: 0,
-            counts: Counts::new(seed),
+            counts,
         }
     }
 
@@ -94,24 +100,52 @@ impl Drill {
         if self.rounds == 0 {
             return Ok(None);
         }
-        let made = round_act(alloc, self.counts.round(), &self.counts, self.place);
-        if made.is_ok() {
-            self.go_on();
-        }
-        made
+        self.round_act(alloc)
     }
 
-    // One more act of a round came.
-    fn go_on(&mut self)
+    // The next act of a round. Whoever makes it answers as `next` does, and goes on before the whole
+    // answer is named: so an act is written where the caller wants it, and not moved there afterwards.
+    fn round_act(&mut self, alloc: Global) -> Result<Option<Act>, Memory>
+        requires { 0 < self.old.rounds }
+        ensures act { IfOk result (λ made.
+            slice_get (round_acts self.old.counts) self.old.place ≡ made) }
+        ensures some { IfOk result IsSome }
+        ensures fits { IfOk result (λ made. IfSome made Fits) }
+        ensures ok { OnOk result (self.new ≡ next_in self.old) }
+        ensures err { OnErr result (self.new ≡ self.old) }
+    {
+        let Round { kind, tab, byte } = self.round;
+        let place = self.place;
+        match kind {
+            Kind::Receive => {
+                let received = self.counts.received;
+                receive_act(alloc, tab, byte, received, place, self)
+            }
+            Kind::Send => {
+                let sent = self.counts.sent;
+                send_act(alloc, tab, byte, sent, place, self)
+            }
+            Kind::Cookies => cookie_act(alloc, tab, byte, place, self),
+            Kind::Objects => {
+                let request = self.counts.asked[usize::from(tab)];
+                let version = self.counts.versions[version_place(tab, byte)] + 1;
+                object_act(alloc, tab, byte, request, version, place, self)
+            }
+            Kind::Screen => screen_act(alloc, tab, byte, place, self),
+        }
+    }
+
+    /// One more act of a round came.
+    pub(crate) fn go_on(&mut self)
         requires { 0 < self.old.rounds }
         ensures { self.new ≡ next_in self.old }
     {
-        let round = self.counts.round();
         self.place += 1;
-        if self.place == round_len(round.kind) {
+        if self.place == round_len(self.round.kind) {
             self.rounds -= 1;
             self.place = 0;
-            self.counts.count(round);
+            self.counts.count(self.round);
+            self.round = self.counts.round();
         }
     }
 }

@@ -6,7 +6,6 @@ ghost use Rattle.ibos_make.specs.Drill.{drill_origin, drill_url};
 ghost use Rattle.ibos_make.specs.Drill as spec;
 
 use ibos_kinds::{Act, Bytes, Handle, Instance, Memory, Proto};
-use itoa::Buffer;
 use std::alloc::Global;
 
 /// How many acts there are before the rounds.
@@ -19,8 +18,8 @@ const POSTS: u8 = 64;
 
 const TABS: u8 = 8;
 
-// How long the origin of a tab's page is, in bytes.
-const ORIGIN_LEN: usize = 17;
+// Where the tab's digit stands in the origin of its page.
+const HOST_DIGIT: usize = 8;
 
 // The offsets of the driver's registers.
 const RCTL: u32 = 0x0100;
@@ -122,6 +121,7 @@ pub fn first_of(tab: u8) -> Instance
 
 #[tactic(auto, unfolding(crate::specs::Drill::drill_url))]
 fn url(alloc: Global, tab: u8) -> Result<Bytes, Memory>
+    requires { tab < 8 }
     ensures { IfOk result (λ text. text ≡ drill_url tab) }
 {
     let mut text = origin(alloc, tab)?;
@@ -130,15 +130,12 @@ fn url(alloc: Global, tab: u8) -> Result<Bytes, Memory>
 }
 
 /// The origin of a tab's page.
-#[tactic(auto, unfolding(crate::specs::Drill::drill_origin, crate::specs::Drill::host_name))]
 pub fn origin(alloc: Global, tab: u8) -> Result<Bytes, Memory>
+    requires { tab < 8 }
     ensures { IfOk result (λ text. text ≡ drill_origin tab) }
 {
-    let mut digits = Buffer::new();
-    let mut text = Bytes::new(alloc);
-    text.reserve(ORIGIN_LEN)?;
-    text.push_slice(b"http://h")?;
-    text.push_slice(digits.format(tab).as_bytes())?;
-    text.push_slice(b".example")?;
+    let mut text = *b"http://h0.example";
+    text[HOST_DIGIT] += tab;
+    let text = Bytes::from_slice(alloc, &text)?;
     Ok(text)
 }

@@ -1,14 +1,16 @@
 // The rounds of a drill.
 ghost use Rattle.std.specs.Prelude.{◌≡◌, ◌+◌, ◌^◌, ◌<◌, ◌∷◌, [], Some, IfOk, IfSome, IsSome, slice_get};
-ghost use Rattle.std.specs.Prelude.{slice_index};
+ghost use Rattle.std.specs.Prelude.{OnErr, OnOk, slice_index};
 ghost use Rattle.hex.specs.Hex.{encode_lower};
 ghost use Rattle.ibos_kinds.specs.Limits.{Fits};
 ghost use Rattle.ibos_make.specs.Drill.{first_counts};
 ghost use Rattle.ibos_make.specs.Drill.{receive_acts, send_acts, cookie_acts, object_acts};
-ghost use Rattle.ibos_make.specs.Drill.{screen_acts, acts_of, counts_after, with_next};
+ghost use Rattle.ibos_make.specs.Drill.{screen_acts, counts_after, with_next};
+ghost use Rattle.ibos_make.specs.Drilling.{next_in};
 ghost use Rattle.ibos_make.specs.Drill as spec;
 
 use crate::building::{FrameSpec, build};
+use crate::drilling::Drill;
 use crate::opening::{RDT, TDT, first_of, origin};
 use ibos_kinds::{Act, Bytes, Endpoint, Handle, Key, Memory, Proto, Side};
 use itoa::Buffer;
@@ -159,8 +161,8 @@ fn byte_of(drawn: u64) -> u8
     (drawn / 40 % 256) as u8
 }
 
-// Where the versions under a key are counted.
-fn version_place(tab: u8, byte: u8) -> usize
+/// Where the versions under a key are counted.
+pub fn version_place(tab: u8, byte: u8) -> usize
     requires { tab < 8 }
     ensures place { result ≡ spec.version_place tab byte }
     ensures below { result < 32 }
@@ -181,58 +183,41 @@ pub fn round_len(kind: Kind) -> u8
     }
 }
 
-/// An act of a round, from the counts before it. Each of these functions answers as `Drill::next`
-/// does, and each arm names the whole answer: so an act is written where the caller wants it, and
-/// not moved there afterwards.
-pub fn round_act(
-    alloc: Global,
-    round: Round,
-    counts: &Counts,
-    place: u8,
-) -> Result<Option<Act>, Memory>
-    requires tab { round.tab < 8 }
-    requires place { place < spec.round_len round.kind }
-    requires versions { slice_index counts.now.versions
-        (spec.version_place round.tab round.byte) + 1 < 2 ^ 32 }
-    ensures act { IfOk result (λ made.
-        slice_get (acts_of round.kind round.tab round.byte counts.now) place ≡ made) }
-    ensures some { IfOk result IsSome }
-    ensures fits { IfOk result (λ made. IfSome made Fits) }
-{
-    let Round { kind, tab, byte } = round;
-    match kind {
-        Kind::Receive => receive_act(alloc, tab, byte, counts.received, place),
-        Kind::Send => send_act(alloc, tab, byte, counts.sent, place),
-        Kind::Cookies => cookie_act(alloc, tab, byte, place),
-        Kind::Objects => {
-            let request = counts.asked[usize::from(tab)];
-            let version = counts.versions[version_place(tab, byte)] + 1;
-            object_act(alloc, tab, byte, request, version, place)
-        }
-        Kind::Screen => screen_act(alloc, tab, byte, place),
-    }
-}
-
-// A frame comes and is told; its buffer is posted and rung again, and the page is done with it.
-fn receive_act(
+/// A frame comes and is told; its buffer is posted and rung again, and the page is done with it.
+/// The drill goes on, as in each of these functions, unless there is no memory for the act.
+pub fn receive_act(
     alloc: Global,
     tab: u8,
     byte: u8,
     received: u32,
     place: u8,
+    drill: &mut Drill,
 ) -> Result<Option<Act>, Memory>
     requires tab { tab < 8 }
     requires place { place < 5 }
+    requires rounds { 0 < drill.old.rounds }
     ensures act { IfOk result (λ made. slice_get (receive_acts tab byte received) place ≡ made) }
     ensures some { IfOk result IsSome }
     ensures fits { IfOk result (λ made. IfSome made Fits) }
+    ensures ok { OnOk result (drill.new ≡ next_in drill.old) }
+    ensures err { OnErr result (drill.new ≡ drill.old) }
 {
+    if place == 0 {
+        let frame = frame_in(alloc, tab, byte)?;
+        drill.go_on();
+        return Ok(Some(Act::WireIn { frame }));
+    }
+    drill.go_on();
     match place {
-        0 => Ok(Some(Act::WireIn {
-            frame: frame_in(alloc, tab, byte)?,
-        })),
         1 => Ok(Some(Act::RxBell)),
-        2 => Ok(Some(post_again(received))),
+        // The buffer is posted where the ring goes on. Each round trip of a buffer is one more turn.
+        2 => Ok(Some(Act::RxPost {
+            slot: (received % 64 + 63) % 64,
+            handle: Handle {
+                name: (received % 63) as u8,
+                turn: received / 63 + 1,
+            },
+        })),
         3 => Ok(Some(Act::RegWrite {
             offset: RDT,
             value: received % 64,
@@ -242,37 +227,37 @@ fn receive_act(
     }
 }
 
-// The buffer of a frame is posted where the ring goes on. Each round trip of a buffer is one more
-// turn.
-fn post_again(received: u32) -> Act
-    ensures act { result ≡ spec.posted_again received }
-    ensures fits { Fits result }
-{
-    Act::RxPost {
-        slot: (received % 64 + 63) % 64,
-        handle: Handle {
-            name: (received % 63) as u8,
-            turn: received / 63 + 1,
-        },
-    }
-}
-
-// A frame is written, accepted, posted, rung and sent, and its buffer comes back.
-fn send_act(alloc: Global, tab: u8, byte: u8, sent: u32, place: u8) -> Result<Option<Act>, Memory>
+/// A frame is written, accepted, posted, rung and sent, and its buffer comes back.
+pub fn send_act(
+    alloc: Global,
+    tab: u8,
+    byte: u8,
+    sent: u32,
+    place: u8,
+    drill: &mut Drill,
+) -> Result<Option<Act>, Memory>
     requires tab { tab < 8 }
     requires place { place < 6 }
+    requires rounds { 0 < drill.old.rounds }
     ensures act { IfOk result (λ made. slice_get (send_acts tab byte sent) place ≡ made) }
     ensures some { IfOk result IsSome }
     ensures fits { IfOk result (λ made. IfSome made Fits) }
+    ensures ok { OnOk result (drill.new ≡ next_in drill.old) }
+    ensures err { OnErr result (drill.new ≡ drill.old) }
 {
     let who = first_of(tab);
-    match place {
-        0 => Ok(Some(Act::Fill {
+    if place == 0 {
+        let bytes = frame_out(alloc, tab, byte)?;
+        drill.go_on();
+        return Ok(Some(Act::Fill {
             who,
             buffer: 0,
             place: 0,
-            bytes: frame_out(alloc, tab, byte)?,
-        })),
+            bytes,
+        }));
+    }
+    drill.go_on();
+    match place {
         1 => Ok(Some(Act::Submit {
             who,
             buffer: 0,
@@ -292,94 +277,134 @@ fn send_act(alloc: Global, tab: u8, byte: u8, sent: u32, place: u8) -> Result<Op
     }
 }
 
-// A cookie is set and read.
-fn cookie_act(alloc: Global, tab: u8, byte: u8, place: u8) -> Result<Option<Act>, Memory>
+/// A cookie is set and read.
+pub fn cookie_act(
+    alloc: Global,
+    tab: u8,
+    byte: u8,
+    place: u8,
+    drill: &mut Drill,
+) -> Result<Option<Act>, Memory>
     requires tab { tab < 8 }
     requires place { place < 2 }
+    requires rounds { 0 < drill.old.rounds }
     ensures act { IfOk result (λ made. slice_get (cookie_acts tab byte) place ≡ made) }
     ensures some { IfOk result IsSome }
     ensures fits { IfOk result (λ made. IfSome made Fits) }
+    ensures ok { OnOk result (drill.new ≡ next_in drill.old) }
+    ensures err { OnErr result (drill.new ≡ drill.old) }
 {
     let who = first_of(tab);
-    match place {
-        0 => Ok(Some(Act::CookieSet {
+    if place == 0 {
+        let text = set_text(alloc, byte)?;
+        drill.go_on();
+        return Ok(Some(Act::CookieSet {
             side: Side::Page,
             who,
-            text: set_text(alloc, byte)?,
-        })),
-        1 => Ok(Some(Act::CookieGet {
-            side: Side::Net,
-            who,
-        })),
-        _ => unreachable!(),
+            text,
+        }));
     }
+    drill.go_on();
+    Ok(Some(Act::CookieGet {
+        side: Side::Net,
+        who,
+    }))
 }
 
-// An object is stored and asked for. An answer in the name of another origin is refused, and one in
-// the right name is taken.
-fn object_act(
+/// An object is stored and asked for. An answer in the name of another origin is refused, and one in
+/// the right name is taken.
+pub fn object_act(
     alloc: Global,
     tab: u8,
     byte: u8,
     request: u32,
     version: u32,
     place: u8,
+    drill: &mut Drill,
 ) -> Result<Option<Act>, Memory>
     requires tab { tab < 8 }
     requires place { place < 4 }
+    requires rounds { 0 < drill.old.rounds }
     ensures act { IfOk result (λ made.
         slice_get (object_acts tab byte request version) place ≡ made) }
     ensures some { IfOk result IsSome }
     ensures fits { IfOk result (λ made. IfSome made Fits) }
+    ensures ok { OnOk result (drill.new ≡ next_in drill.old) }
+    ensures err { OnErr result (drill.new ≡ drill.old) }
 {
     let who = first_of(tab);
     let key = key_name(alloc, byte)?;
     match place {
-        0 => Ok(Some(Act::Put {
-            who,
-            key,
-            bytes: Bytes::from_slice(alloc, &[byte])?,
-        })),
-        1 => Ok(Some(Act::Ask { who, key })),
-        2 => Ok(Some(Act::StoreAnswer {
-            who,
-            request,
-            origin: origin(alloc, (tab + 1) % 8)?,
-            key,
-            version,
-        })),
-        3 => Ok(Some(Act::StoreAnswer {
-            who,
-            request,
-            origin: origin(alloc, tab)?,
-            key,
-            version,
-        })),
+        0 => {
+            let bytes = Bytes::from_slice(alloc, &[byte])?;
+            drill.go_on();
+            Ok(Some(Act::Put { who, key, bytes }))
+        }
+        1 => {
+            drill.go_on();
+            Ok(Some(Act::Ask { who, key }))
+        }
+        2 => {
+            let origin = origin(alloc, (tab + 1) % 8)?;
+            drill.go_on();
+            Ok(Some(Act::StoreAnswer {
+                who,
+                request,
+                origin,
+                key,
+                version,
+            }))
+        }
+        3 => {
+            let origin = origin(alloc, tab)?;
+            drill.go_on();
+            Ok(Some(Act::StoreAnswer {
+                who,
+                request,
+                origin,
+                key,
+                version,
+            }))
+        }
         _ => unreachable!(),
     }
 }
 
-// A tab is switched to, and a key pressed there; the page draws the key's byte.
-fn screen_act(alloc: Global, tab: u8, byte: u8, place: u8) -> Result<Option<Act>, Memory>
+/// A tab is switched to, and a key pressed there; the page draws the key's byte.
+pub fn screen_act(
+    alloc: Global,
+    tab: u8,
+    byte: u8,
+    place: u8,
+    drill: &mut Drill,
+) -> Result<Option<Act>, Memory>
     requires tab { tab < 8 }
     requires place { place < 3 }
+    requires rounds { 0 < drill.old.rounds }
     ensures act { IfOk result (λ made. slice_get (screen_acts tab byte) place ≡ made) }
     ensures some { IfOk result IsSome }
     ensures fits { IfOk result (λ made. IfSome made Fits) }
+    ensures ok { OnOk result (drill.new ≡ next_in drill.old) }
+    ensures err { OnErr result (drill.new ≡ drill.old) }
 {
     let drawn = b' ' + byte % 95;
-    match place {
-        0 => Ok(Some(Act::Switch { tab })),
-        1 => Ok(Some(Act::Press {
-            key: Key::Byte(drawn),
-        })),
-        2 => Ok(Some(Act::Draw {
+    if place == 2 {
+        let pixels = Bytes::from_slice(alloc, &[drawn])?;
+        drill.go_on();
+        return Ok(Some(Act::Draw {
             who: first_of(tab),
             row: u32::from(byte % 22),
             col: u32::from(byte % 80),
             height: 1,
             width: 1,
-            pixels: Bytes::from_slice(alloc, &[drawn])?,
+            pixels,
+        }));
+    }
+    drill.go_on();
+    match place {
+        0 => Ok(Some(Act::Switch { tab })),
+        1 => Ok(Some(Act::Press {
+            key: Key::Byte(drawn),
         })),
         _ => unreachable!(),
     }
@@ -465,12 +490,9 @@ fn hex_pair(byte: u8) -> [u8; 2]
     digits
 }
 
-#[tactic(auto, unfolding(crate::specs::Drill::key_name))]
 fn key_name(alloc: Global, byte: u8) -> Result<Bytes, Memory>
     ensures { IfOk result (λ name. name ≡ spec.key_name byte) }
 {
-    let mut digits = Buffer::new();
-    let mut name = Bytes::from_slice(alloc, b"k")?;
-    name.push_slice(digits.format(byte % 4).as_bytes())?;
+    let name = Bytes::from_slice(alloc, &[b'k', b'0' + byte % 4])?;
     Ok(name)
 }

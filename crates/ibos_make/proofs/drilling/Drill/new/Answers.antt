@@ -7,10 +7,12 @@ use Rattle.ibos_make.proofs.drilling.Drill.new.Goals as goal
 
 pub invariant_of-result : goal.invariant_of-result
 invariant_of-result c =
-    let P : Counts → Type 0 = λ counts. IsWithin (record { opening = 0; rounds = c.args.rounds; place = 0; counts = counts }) in
-    subst P (sym c.new.ensures) (within-first c.args.seed c.args.rounds (omega arith))
+    let P : Counts → Type 0 = λ counts. IsWithin (record { opening = 0; rounds = c.args.rounds; place = 0; counts = counts }) in (
+      record { kind = c.round.ensures.kind; tab = c.round.ensures.tab; byte = c.round.ensures.byte; below = c.round.ensures.below },
+      subst P (sym c.new-counts.ensures) (within-first c.args.seed c.args.rounds (omega arith)),
+    )
 
 pub returns-clause-few : goal.returns-clause-few
 returns-clause-few c =
     let P : Counts → Type 0 = λ counts. length (left (record { opening = 0; rounds = c.args.rounds; place = 0; counts = counts })) ≤ 86 + 6 * c.args.rounds in
-    subst P (sym c.new.ensures) (drill-few c.args.seed c.args.rounds)
+    subst P (sym c.new-counts.ensures) (drill-few c.args.seed c.args.rounds)
