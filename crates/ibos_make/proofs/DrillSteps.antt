@@ -1,5 +1,5 @@
 -- A drill goes on act by act, and stays within its rounds.
-use Rattle.std.proofs.Common.{◌≡◌, ◌≢◌, ℕ, zero, suc, ◌+◌, ◌-◌, ◌*◌, ◌^◌, ◌<◌, ◌≤◌, ◌==◌, Bool, true, false, List, [], ◌∷◌, ◌++◌, length, drop, Option, Some, None, Result, Ok, Err, IfOk, IfSome, IsSome, OnOk, ◌↔◌, slice_get, slice_index, replicate, refl, ap, sym, subst, ◌∙◌, arith}
+use Rattle.std.proofs.Common.{◌≡◌, ◌≢◌, ℕ, zero, suc, ◌+◌, ◌-◌, ◌*◌, ◌^◌, ◌<◌, ◌≤◌, ◌==◌, Bool, true, false, List, [], ◌∷◌, ◌++◌, length, drop, Some, Result, Ok, Err, OnOk, slice_get, slice_index, replicate, refl, ap, sym, subst, ◌∙◌, arith}
 use Rattle.std.proofs.Math.Seq.{drop-nil}
 use Rattle.std.proofs.lemmas.List.{drop-append-le, drop_all, length-append}
 use Rattle.std.proofs.lemmas.Option.{slice_get_within}
@@ -158,27 +158,15 @@ left-none d over none =
     ∙ ap (λ l. l ++ drop d.place (rounds_acts d.rounds d.counts)) opening_over
     ∙ ap (λ n. drop d.place (rounds_acts n d.counts)) none ∙ drop-nil d.place
 
--- where an act comes, neither is there none nor was none left
-pub some-comes : (act : Act) (before after : List Act) → before ≡ act ∷ after → (Some act ≡ None → before ≡ []) × (before ≡ [] → Some act ≡ None)
-some-comes act before after h = (λ none. cc, λ none. cc)
+-- the act of a round came, and the drill went on, if there was memory for it
+pub goes-on : {T E : Type 0} (made : Result T E) (act : Act) (before after : Drilling) → before.opening ≡ 86 → 0 < before.rounds
+    → OnOk made (slice_get (round_acts before.counts) before.place ≡ Some act) → OnOk made (after ≡ next_in before)
+    → OnOk made (left before ≡ act ∷ left after)
+goes-on (Ok x) act before after over some at next = left-round before act over some at ∙ ap (λ d. act ∷ left d) (sym next)
+goes-on (Err e) act before after over some at next = tt
 
--- what was made is the act that comes, and the drill goes on, if there was memory for it
-pub goes-on : {E : Type 0} (made : Result (Option Act) E) (before after : Drilling) → before.opening ≡ 86 → 0 < before.rounds
-    → IfOk made (λ m. slice_get (round_acts before.counts) before.place ≡ m) → OnOk made (after ≡ next_in before)
-    → IfOk made (λ next. IfSome next (λ act. left before ≡ act ∷ left after))
-goes-on (Ok (Some act)) before after over some at next = left-round before act over some at ∙ ap (λ d. act ∷ left d) (sym next)
-goes-on (Ok None) before after over some at next = tt
-goes-on (Err e) before after over some at next = tt
-
-pub comes-on : {E : Type 0} (made : Result (Option Act) E) (before after : Drilling) → before.opening ≡ 86 → 0 < before.rounds
-    → IfOk made (λ m. slice_get (round_acts before.counts) before.place ≡ m) → IfOk made (λ m. IsSome m) → OnOk made (after ≡ next_in before)
-    → IfOk made (λ next. next ≡ None ↔ left before ≡ [])
-comes-on {E} (Ok (Some act)) before after over some at is next = some-comes act (left before) (left after) (goes-on {E = E} (Ok (Some act)) before after over some at next)
-comes-on (Ok None) before after over some at is next = absurd (no_some is)
-  where
-    no_some : IsSome {T = Act} None → ⊥
-    no_some p = cc
-comes-on (Err e) before after over some at is next = tt
+pub one-came : (act : Act) (before after : List Act) → before ≡ act ∷ after → (true ≡ false → before ≡ []) × (before ≡ [] → true ≡ false)
+one-came act before after h = (λ none. cc, λ none. cc)
 
 -- ROOM
 

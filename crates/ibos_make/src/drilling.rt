@@ -1,6 +1,6 @@
 // A drill: as many acts of all parties as are wanted, made from a number.
 ghost use Rattle.std.specs.Prelude.{◌≡◌, ◌↔◌, ◌∷◌, ◌<◌, ◌≤◌, ◌+◌, ◌*◌, [], None, length, IfOk};
-ghost use Rattle.std.specs.Prelude.{IfSome, IsSome, OnErr, OnOk, slice_get};
+ghost use Rattle.std.specs.Prelude.{IfSome, OnErr, OnOk, Some, slice_get, true, false};
 ghost use Rattle.ibos_kinds.specs.Limits.{Fits};
 ghost use Rattle.ibos_make.specs.Drill.{drill_acts, drill_table, left, round_acts};
 ghost use Rattle.ibos_make.specs.Drilling.{next_in};
@@ -92,25 +92,42 @@ impl Drill {
         ensures over { IfOk result (λ next. next ≡ None → self.new ≡ self.old) }
         ensures same { OnErr result (self.new ≡ self.old) }
     {
-        if self.opening < OPENING {
-            let act = opening_act(alloc, self.opening)?;
-            self.opening += 1;
-            return Ok(Some(act));
+        let mut act = Act::Look;
+        if self.next_into(alloc, &mut act)? {
+            Ok(Some(act))
+        } else {
+            Ok(None)
         }
-        if self.rounds == 0 {
-            return Ok(None);
-        }
-        self.round_act(alloc)
     }
 
-    // The next act of a round. Whoever makes it answers as `next` does, and goes on before the whole
-    // answer is named: so an act is written where the caller wants it, and not moved there afterwards.
-    fn round_act(&mut self, alloc: Global) -> Result<Option<Act>, Memory>
+    /// The same, but the act takes the place of one that the caller has, and the answer is whether
+    /// there was one: an act is large, and a call that answers it copies it.
+    pub fn next_into(&mut self, alloc: Global, act: &mut Act) -> Result<bool, Memory>
+        ensures none { IfOk result (λ more. more ≡ false ↔ left self.old ≡ []) }
+        ensures some { IfOk result (λ more.
+            more ≡ true → left self.old ≡ act.new ∷ left self.new) }
+        ensures fits { IfOk result (λ more. more ≡ true → Fits act.new) }
+        ensures over { IfOk result (λ more. more ≡ false → self.new ≡ self.old) }
+        ensures same { OnErr result (self.new ≡ self.old) }
+    {
+        if self.opening < OPENING {
+            *act = opening_act(alloc, self.opening)?;
+            self.opening += 1;
+            return Ok(true);
+        }
+        if self.rounds == 0 {
+            return Ok(false);
+        }
+        self.round_act(alloc, act)?;
+        Ok(true)
+    }
+
+    // The next act of a round.
+    fn round_act(&mut self, alloc: Global, act: &mut Act) -> Result<(), Memory>
         requires { 0 < self.old.rounds }
-        ensures act { IfOk result (λ made.
-            slice_get (round_acts self.old.counts) self.old.place ≡ made) }
-        ensures some { IfOk result IsSome }
-        ensures fits { IfOk result (λ made. IfSome made Fits) }
+        ensures act { OnOk result
+            (slice_get (round_acts self.old.counts) self.old.place ≡ Some act.new) }
+        ensures fits { OnOk result (Fits act.new) }
         ensures ok { OnOk result (self.new ≡ next_in self.old) }
         ensures err { OnErr result (self.new ≡ self.old) }
     {
@@ -119,19 +136,19 @@ impl Drill {
         match kind {
             Kind::Receive => {
                 let received = self.counts.received;
-                receive_act(alloc, tab, byte, received, place, self)
+                receive_act(alloc, tab, byte, received, place, self, act)
             }
             Kind::Send => {
                 let sent = self.counts.sent;
-                send_act(alloc, tab, byte, sent, place, self)
+                send_act(alloc, tab, byte, sent, place, self, act)
             }
-            Kind::Cookies => cookie_act(alloc, tab, byte, place, self),
+            Kind::Cookies => cookie_act(alloc, tab, byte, place, self, act),
             Kind::Objects => {
                 let request = self.counts.asked[usize::from(tab)];
                 let version = self.counts.versions[version_place(tab, byte)] + 1;
-                object_act(alloc, tab, byte, request, version, place, self)
+                object_act(alloc, tab, byte, request, version, place, self, act)
             }
-            Kind::Screen => screen_act(alloc, tab, byte, place, self),
+            Kind::Screen => screen_act(alloc, tab, byte, place, self, act),
         }
     }
 

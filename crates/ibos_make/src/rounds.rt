@@ -192,39 +192,45 @@ pub fn receive_act(
     received: u32,
     place: u8,
     drill: &mut Drill,
-) -> Result<Option<Act>, Memory>
+    act: &mut Act,
+) -> Result<(), Memory>
     requires tab { tab < 8 }
     requires place { place < 5 }
     requires rounds { 0 < drill.old.rounds }
-    ensures act { IfOk result (λ made. slice_get (receive_acts tab byte received) place ≡ made) }
-    ensures some { IfOk result IsSome }
-    ensures fits { IfOk result (λ made. IfSome made Fits) }
+    ensures act { OnOk result (slice_get (receive_acts tab byte received) place ≡ Some act.new) }
+    ensures fits { OnOk result (Fits act.new) }
     ensures ok { OnOk result (drill.new ≡ next_in drill.old) }
     ensures err { OnErr result (drill.new ≡ drill.old) }
 {
     if place == 0 {
         let frame = frame_in(alloc, tab, byte)?;
         drill.go_on();
-        return Ok(Some(Act::WireIn { frame }));
+        *act = Act::WireIn { frame };
+        return Ok(());
     }
     drill.go_on();
     match place {
-        1 => Ok(Some(Act::RxBell)),
+        1 => *act = Act::RxBell,
         // The buffer is posted where the ring goes on. Each round trip of a buffer is one more turn.
-        2 => Ok(Some(Act::RxPost {
-            slot: (received % 64 + 63) % 64,
-            handle: Handle {
-                name: (received % 63) as u8,
-                turn: received / 63 + 1,
-            },
-        })),
-        3 => Ok(Some(Act::RegWrite {
-            offset: RDT,
-            value: received % 64,
-        })),
-        4 => Ok(Some(Act::Done { who: first_of(tab) })),
+        2 => {
+            *act = Act::RxPost {
+                slot: (received % 64 + 63) % 64,
+                handle: Handle {
+                    name: (received % 63) as u8,
+                    turn: received / 63 + 1,
+                },
+            }
+        }
+        3 => {
+            *act = Act::RegWrite {
+                offset: RDT,
+                value: received % 64,
+            }
+        }
+        4 => *act = Act::Done { who: first_of(tab) },
         _ => unreachable!(),
     }
+    Ok(())
 }
 
 /// A frame is written, accepted, posted, rung and sent, and its buffer comes back.
@@ -235,13 +241,13 @@ pub fn send_act(
     sent: u32,
     place: u8,
     drill: &mut Drill,
-) -> Result<Option<Act>, Memory>
+    act: &mut Act,
+) -> Result<(), Memory>
     requires tab { tab < 8 }
     requires place { place < 6 }
     requires rounds { 0 < drill.old.rounds }
-    ensures act { IfOk result (λ made. slice_get (send_acts tab byte sent) place ≡ made) }
-    ensures some { IfOk result IsSome }
-    ensures fits { IfOk result (λ made. IfSome made Fits) }
+    ensures act { OnOk result (slice_get (send_acts tab byte sent) place ≡ Some act.new) }
+    ensures fits { OnOk result (Fits act.new) }
     ensures ok { OnOk result (drill.new ≡ next_in drill.old) }
     ensures err { OnErr result (drill.new ≡ drill.old) }
 {
@@ -249,32 +255,40 @@ pub fn send_act(
     if place == 0 {
         let bytes = frame_out(alloc, tab, byte)?;
         drill.go_on();
-        return Ok(Some(Act::Fill {
+        *act = Act::Fill {
             who,
             buffer: 0,
             place: 0,
             bytes,
-        }));
+        };
+        return Ok(());
     }
     drill.go_on();
     match place {
-        1 => Ok(Some(Act::Submit {
-            who,
-            buffer: 0,
-            len: 55,
-        })),
-        2 => Ok(Some(Act::TxPost {
-            slot: sent % 64,
-            send: sent,
-        })),
-        3 => Ok(Some(Act::RegWrite {
-            offset: TDT,
-            value: (sent % 64 + 1) % 64,
-        })),
-        4 => Ok(Some(Act::WireOut)),
-        5 => Ok(Some(Act::TxBell)),
+        1 => {
+            *act = Act::Submit {
+                who,
+                buffer: 0,
+                len: 55,
+            }
+        }
+        2 => {
+            *act = Act::TxPost {
+                slot: sent % 64,
+                send: sent,
+            }
+        }
+        3 => {
+            *act = Act::RegWrite {
+                offset: TDT,
+                value: (sent % 64 + 1) % 64,
+            }
+        }
+        4 => *act = Act::WireOut,
+        5 => *act = Act::TxBell,
         _ => unreachable!(),
     }
+    Ok(())
 }
 
 /// A cookie is set and read.
@@ -284,13 +298,13 @@ pub fn cookie_act(
     byte: u8,
     place: u8,
     drill: &mut Drill,
-) -> Result<Option<Act>, Memory>
+    act: &mut Act,
+) -> Result<(), Memory>
     requires tab { tab < 8 }
     requires place { place < 2 }
     requires rounds { 0 < drill.old.rounds }
-    ensures act { IfOk result (λ made. slice_get (cookie_acts tab byte) place ≡ made) }
-    ensures some { IfOk result IsSome }
-    ensures fits { IfOk result (λ made. IfSome made Fits) }
+    ensures act { OnOk result (slice_get (cookie_acts tab byte) place ≡ Some act.new) }
+    ensures fits { OnOk result (Fits act.new) }
     ensures ok { OnOk result (drill.new ≡ next_in drill.old) }
     ensures err { OnErr result (drill.new ≡ drill.old) }
 {
@@ -298,17 +312,19 @@ pub fn cookie_act(
     if place == 0 {
         let text = set_text(alloc, byte)?;
         drill.go_on();
-        return Ok(Some(Act::CookieSet {
+        *act = Act::CookieSet {
             side: Side::Page,
             who,
             text,
-        }));
+        };
+        return Ok(());
     }
     drill.go_on();
-    Ok(Some(Act::CookieGet {
+    *act = Act::CookieGet {
         side: Side::Net,
         who,
-    }))
+    };
+    Ok(())
 }
 
 /// An object is stored and asked for. An answer in the name of another origin is refused, and one in
@@ -321,14 +337,13 @@ pub fn object_act(
     version: u32,
     place: u8,
     drill: &mut Drill,
-) -> Result<Option<Act>, Memory>
+    act: &mut Act,
+) -> Result<(), Memory>
     requires tab { tab < 8 }
     requires place { place < 4 }
     requires rounds { 0 < drill.old.rounds }
-    ensures act { IfOk result (λ made.
-        slice_get (object_acts tab byte request version) place ≡ made) }
-    ensures some { IfOk result IsSome }
-    ensures fits { IfOk result (λ made. IfSome made Fits) }
+    ensures act { OnOk result (slice_get (object_acts tab byte request version) place ≡ Some act.new) }
+    ensures fits { OnOk result (Fits act.new) }
     ensures ok { OnOk result (drill.new ≡ next_in drill.old) }
     ensures err { OnErr result (drill.new ≡ drill.old) }
 {
@@ -338,36 +353,37 @@ pub fn object_act(
         0 => {
             let bytes = Bytes::from_slice(alloc, &[byte])?;
             drill.go_on();
-            Ok(Some(Act::Put { who, key, bytes }))
+            *act = Act::Put { who, key, bytes };
         }
         1 => {
             drill.go_on();
-            Ok(Some(Act::Ask { who, key }))
+            *act = Act::Ask { who, key };
         }
         2 => {
             let origin = origin(alloc, (tab + 1) % 8)?;
             drill.go_on();
-            Ok(Some(Act::StoreAnswer {
+            *act = Act::StoreAnswer {
                 who,
                 request,
                 origin,
                 key,
                 version,
-            }))
+            };
         }
         3 => {
             let origin = origin(alloc, tab)?;
             drill.go_on();
-            Ok(Some(Act::StoreAnswer {
+            *act = Act::StoreAnswer {
                 who,
                 request,
                 origin,
                 key,
                 version,
-            }))
+            };
         }
         _ => unreachable!(),
     }
+    Ok(())
 }
 
 /// A tab is switched to, and a key pressed there; the page draws the key's byte.
@@ -377,13 +393,13 @@ pub fn screen_act(
     byte: u8,
     place: u8,
     drill: &mut Drill,
-) -> Result<Option<Act>, Memory>
+    act: &mut Act,
+) -> Result<(), Memory>
     requires tab { tab < 8 }
     requires place { place < 3 }
     requires rounds { 0 < drill.old.rounds }
-    ensures act { IfOk result (λ made. slice_get (screen_acts tab byte) place ≡ made) }
-    ensures some { IfOk result IsSome }
-    ensures fits { IfOk result (λ made. IfSome made Fits) }
+    ensures act { OnOk result (slice_get (screen_acts tab byte) place ≡ Some act.new) }
+    ensures fits { OnOk result (Fits act.new) }
     ensures ok { OnOk result (drill.new ≡ next_in drill.old) }
     ensures err { OnErr result (drill.new ≡ drill.old) }
 {
@@ -391,23 +407,27 @@ pub fn screen_act(
     if place == 2 {
         let pixels = Bytes::from_slice(alloc, &[drawn])?;
         drill.go_on();
-        return Ok(Some(Act::Draw {
+        *act = Act::Draw {
             who: first_of(tab),
             row: u32::from(byte % 22),
             col: u32::from(byte % 80),
             height: 1,
             width: 1,
             pixels,
-        }));
+        };
+        return Ok(());
     }
     drill.go_on();
     match place {
-        0 => Ok(Some(Act::Switch { tab })),
-        1 => Ok(Some(Act::Press {
-            key: Key::Byte(drawn),
-        })),
+        0 => *act = Act::Switch { tab },
+        1 => {
+            *act = Act::Press {
+                key: Key::Byte(drawn),
+            }
+        }
         _ => unreachable!(),
     }
+    Ok(())
 }
 
 // A frame from the tab's host to its page.

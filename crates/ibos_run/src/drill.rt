@@ -17,7 +17,7 @@ use crate::tally::Tally;
 use crate::texts::summary;
 use crate::transfer::write_all;
 use ibos_kernel::Kernel;
-use ibos_kinds::{Memory, Outcome, Sink};
+use ibos_kinds::{Act, Memory, Outcome, Sink};
 use ibos_make::{Drill, drill_hosts};
 use ibos_model::{
     frames_are_fronts, frames_are_sent_in_turn, runs_go_on, sent_frames_are_fronts,
@@ -87,13 +87,12 @@ fn make_drill<N: Nic>(
     frames_are_sent_in_turn();
     let mut outcome = Outcome::new(alloc);
     let mut tally = Tally::new();
-    'acts: loop {
-        // Lent as it was made: an act is large, and moving it costs more than many a step.
-        match &drill.next(alloc) {
-            Ok(Some(act)) => kernel.step(alloc, act, nic, &mut outcome)?,
-            Ok(None) => return Ok(tally),
-            Err(Memory) => return Err(Memory),
-        }
+    // One act after another lies here, and is lent: it is large, and moving it costs more than many
+    // a step.
+    let mut act = Act::Look;
+    'acts: while drill.next_into(alloc, &mut act)? {
+        kernel.step(alloc, &act, nic, &mut outcome)?;
         tally.count(&outcome);
     }
+    Ok(tally)
 }

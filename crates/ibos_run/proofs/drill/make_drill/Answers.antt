@@ -1,6 +1,4 @@
-use Rattle.std.proofs.Common.{rules, ◌≡◌, ◌+◌, ◌<◌, List, [], ◌∷◌, Option, None, Some, Ok, arith, ap, length, refl, subst, sym}
-use Rattle.std.specs.Prelude.{IfOk, IfSome, Result, ◌↔◌}
-use Rattle.ibos_kinds.specs.declared.bytes.Memory.{Memory}
+use Rattle.std.proofs.Common.{◌≡◌, ◌+◌, ◌<◌, List, [], ◌∷◌, arith, ap, length, subst, sym}
 use Rattle.ibos_kinds.specs.declared.act.Act.{Act}
 use Rattle.ibos_make.specs.Drill.{left}
 use Rattle.ibos_run.specs.Summaries.{IsTally}
@@ -16,30 +14,26 @@ acts-init g c = record {
   few = c.requires.few;
 }
 
-pub returns-in-Err-clause-front : goal.returns-in-Err-clause-front
-returns-in-Err-clause-front g c = (drill_paused c.texts_are_fronts.ensures c.frames_are_fronts.ensures c.sent_frames_are_fronts.ensures _ _ _ _ _ _ _ _ c.acts.invariant.drilling.1)
-
-pub returns-in_err-step-in-Ok-Some-clause-front : goal.returns-in_err-step-in-Ok-Some-clause-front
-returns-in_err-step-in-Ok-Some-clause-front g c =
-    let drilling = c.acts.invariant.drilling in
-    let made : c.next.result ≡ Ok (Some c.in-Ok-Some.act) = search rules in
-    let split : left c.acts.drill ≡ c.in-Ok-Some.act ∷ left c.next.new.self =
-    subst (λ (n : Result (Option Act) Memory). IfOk n (λ next. IfSome next (λ act. left c.acts.drill ≡ act ∷ left c.next.new.self))) made c.next.ensures.some in
-    on_err _ _ (drill_cut c.texts_are_fronts.ensures c.frames_are_fronts.ensures c.sent_frames_are_fronts.ensures c.frames_are_sent_in_turn.ensures _ _ _ _ _ _ _ _ _ _ _ drilling.1 split
-    (c.in_err-step-in-Ok-Some.ensures.loses drilling.0 drilling.1.serving.stands (drill_agrees _ _ _ _ _ _ _ _ drilling.1)))
-
 pub count-requires-clause-tally : goal.count-requires-clause-tally
 count-requires-clause-tally g c =
     let drilling = c.acts.invariant.drilling in
     subst (λ (t : Tally). IsTally t) (sym drilling.1.counted) (is_tally drilling.0)
 
+pub returns-in_err-next_into-clause-front : goal.returns-in_err-next_into-clause-front
+returns-in_err-next_into-clause-front g c = on_err _ _ (drill_paused c.texts_are_fronts.ensures c.frames_are_fronts.ensures c.sent_frames_are_fronts.ensures _ _ _ _ _ _ _ _ c.acts.invariant.drilling.1)
+
+pub returns-in_err-step-clause-front : goal.returns-in_err-step-clause-front
+returns-in_err-step-clause-front g c =
+    let drilling = c.acts.invariant.drilling in
+    let split : left c.acts.drill ≡ c.next_into.new.act ∷ left c.next_into.new.self = c.in_ok-next_into.ensures.some c.if-branch.true in
+    on_err _ _ (drill_cut c.texts_are_fronts.ensures c.frames_are_fronts.ensures c.sent_frames_are_fronts.ensures c.frames_are_sent_in_turn.ensures _ _ _ _ _ _ _ _ _ _ _ drilling.1 split
+    (c.in_err-step.ensures.loses drilling.0 drilling.1.serving.stands (drill_agrees _ _ _ _ _ _ _ _ drilling.1)))
+
 pub acts-preserved : goal.acts-preserved
 acts-preserved g c =
     let drilling = c.acts.invariant.drilling in
-    let made : c.next.result ≡ Ok (Some c.in-Ok-Some.act) = search rules in
-    let split : left c.acts.drill ≡ c.in-Ok-Some.act ∷ left c.next.new.self =
-    subst (λ (n : Result (Option Act) Memory). IfOk n (λ next. IfSome next (λ act. left c.acts.drill ≡ act ∷ left c.next.new.self))) made c.next.ensures.some in
-    let stepped = c.in_ok-step-in-Ok-Some.ensures in
+    let split : left c.acts.drill ≡ c.next_into.new.act ∷ left c.next_into.new.self = c.in_ok-next_into.ensures.some c.if-branch.true in
+    let stepped = c.in_ok-step.ensures in
     let stands = drilling.1.serving.stands in
     let agrees = drill_agrees _ _ _ _ _ _ _ _ drilling.1 in
     record {
@@ -57,14 +51,12 @@ acts-preserved g c =
       few = omega (arith, stepped.acts, ap (λ (l : List Act). length l) split, c.acts.invariant.few);
     }
 
-pub returns-in-Ok-None-clause-tally : goal.returns-in-Ok-None-clause-tally
-returns-in-Ok-None-clause-tally g c =
-    let made : c.next.result ≡ Ok None = search rules in
-    let none : left c.acts.drill ≡ [] = (subst (λ (n : Result (Option Act) Memory). IfOk n (λ next. next ≡ None ↔ left c.acts.drill ≡ [])) made c.next.ensures.none).0 refl in
+pub returns-clause-tally : goal.returns-clause-tally
+returns-clause-tally g c =
+    let none : left c.acts.drill ≡ [] = c.in_ok-next_into.ensures.none.0 c.if-branch.false in
     (drill_over _ _ _ _ _ _ _ _ c.acts.invariant.drilling.1 none).counted
 
-pub returns-in-Ok-None-clause-drilled : goal.returns-in-Ok-None-clause-drilled
-returns-in-Ok-None-clause-drilled g c =
-    let made : c.next.result ≡ Ok None = search rules in
-    let none : left c.acts.drill ≡ [] = (subst (λ (n : Result (Option Act) Memory). IfOk n (λ next. next ≡ None ↔ left c.acts.drill ≡ [])) made c.next.ensures.none).0 refl in
+pub returns-clause-drilled : goal.returns-clause-drilled
+returns-clause-drilled g c =
+    let none : left c.acts.drill ≡ [] = c.in_ok-next_into.ensures.none.0 c.if-branch.false in
     (drill_over _ _ _ _ _ _ _ _ c.acts.invariant.drilling.1 none).drilled

@@ -1,4 +1,4 @@
-use Rattle.std.proofs.Common.{◌≡◌, ℕ, ◌+◌, List, IfOk, slice_get, slice_index, ap₂, ◌∙◌, subst}
+use Rattle.std.proofs.Common.{◌≡◌, ℕ, ◌+◌, List, OnOk, Some, slice_get, slice_index, ap₂, ◌∙◌, subst}
 use Rattle.ibos_kinds.specs.declared.act.Act.{Act}
 use Rattle.ibos_make.specs.declared.rounds.Kind.TheVariants.{Receive, Send, Cookies, Objects, Screen}
 use Rattle.ibos_make.specs.Drill.{Drilling, object_acts, round_acts}
@@ -10,8 +10,8 @@ receive_act-requires-clause-place c = place-in c.self.inside.round c.self.inside
 
 pub returns-in-Receive-clause-act : goal.returns-in-Receive-clause-act
 returns-in-Receive-clause-act c =
-    let P : List Act → Type 0 = λ acts. IfOk c.receive_act.result (λ made. slice_get acts c.self.inside.place ≡ made) in
-    let Q : Drilling → Type 0 = λ d. IfOk c.receive_act.result (λ made. slice_get (round_acts d.counts) d.place ≡ made) in
+    let P : List Act → Type 0 = λ acts. OnOk c.receive_act.result (slice_get acts c.self.inside.place ≡ Some c.receive_act.new.act) in
+    let Q : Drilling → Type 0 = λ d. OnOk c.receive_act.result (slice_get (round_acts d.counts) d.place ≡ Some c.receive_act.new.act) in
     subst Q c.self.view_is (subst P (acts-are c.self.inside.round c.self.inside.counts Receive c.in-Receive.is c.self.invariant.0) c.receive_act.ensures.act)
 
 pub send_act-requires-clause-place : goal.send_act-requires-clause-place
@@ -19,8 +19,8 @@ send_act-requires-clause-place c = place-in c.self.inside.round c.self.inside.co
 
 pub returns-in-Send-clause-act : goal.returns-in-Send-clause-act
 returns-in-Send-clause-act c =
-    let P : List Act → Type 0 = λ acts. IfOk c.send_act.result (λ made. slice_get acts c.self.inside.place ≡ made) in
-    let Q : Drilling → Type 0 = λ d. IfOk c.send_act.result (λ made. slice_get (round_acts d.counts) d.place ≡ made) in
+    let P : List Act → Type 0 = λ acts. OnOk c.send_act.result (slice_get acts c.self.inside.place ≡ Some c.send_act.new.act) in
+    let Q : Drilling → Type 0 = λ d. OnOk c.send_act.result (slice_get (round_acts d.counts) d.place ≡ Some c.send_act.new.act) in
     subst Q c.self.view_is (subst P (acts-are c.self.inside.round c.self.inside.counts Send c.in-Send.is c.self.invariant.0) c.send_act.ensures.act)
 
 pub cookie_act-requires-clause-place : goal.cookie_act-requires-clause-place
@@ -28,8 +28,8 @@ cookie_act-requires-clause-place c = place-in c.self.inside.round c.self.inside.
 
 pub returns-in-Cookies-clause-act : goal.returns-in-Cookies-clause-act
 returns-in-Cookies-clause-act c =
-    let P : List Act → Type 0 = λ acts. IfOk c.cookie_act.result (λ made. slice_get acts c.self.inside.place ≡ made) in
-    let Q : Drilling → Type 0 = λ d. IfOk c.cookie_act.result (λ made. slice_get (round_acts d.counts) d.place ≡ made) in
+    let P : List Act → Type 0 = λ acts. OnOk c.cookie_act.result (slice_get acts c.self.inside.place ≡ Some c.cookie_act.new.act) in
+    let Q : Drilling → Type 0 = λ d. OnOk c.cookie_act.result (slice_get (round_acts d.counts) d.place ≡ Some c.cookie_act.new.act) in
     subst Q c.self.view_is (subst P (acts-are c.self.inside.round c.self.inside.counts Cookies c.in-Cookies.is c.self.invariant.0) c.cookie_act.ensures.act)
 
 pub object_act-requires-clause-place : goal.object_act-requires-clause-place
@@ -37,8 +37,8 @@ object_act-requires-clause-place c = place-in c.self.inside.round c.self.inside.
 
 pub returns-in-Objects-clause-act : goal.returns-in-Objects-clause-act
 returns-in-Objects-clause-act c =
-    let P : List Act → Type 0 = λ acts. IfOk c.object_act.result (λ made. slice_get acts c.self.inside.place ≡ made) in
-    let Q : Drilling → Type 0 = λ d. IfOk c.object_act.result (λ made. slice_get (round_acts d.counts) d.place ≡ made) in
+    let P : List Act → Type 0 = λ acts. OnOk c.object_act.result (slice_get acts c.self.inside.place ≡ Some c.object_act.new.act) in
+    let Q : Drilling → Type 0 = λ d. OnOk c.object_act.result (slice_get (round_acts d.counts) d.place ≡ Some c.object_act.new.act) in
     let d = c.self.inside in
     let same = ap₂ (λ (t place : ℕ). object_acts d.round.tab d.round.byte (slice_index d.counts.asked t) (slice_index d.counts.versions place + 1)) c.from.ensures c.version_place.ensures.place in
     subst Q c.self.view_is (subst P (same ∙ acts-are d.round d.counts Objects c.in-Objects.is c.self.invariant.0) c.object_act.ensures.act)
@@ -48,6 +48,6 @@ screen_act-requires-clause-place c = place-in c.self.inside.round c.self.inside.
 
 pub returns-in-Screen-clause-act : goal.returns-in-Screen-clause-act
 returns-in-Screen-clause-act c =
-    let P : List Act → Type 0 = λ acts. IfOk c.screen_act.result (λ made. slice_get acts c.self.inside.place ≡ made) in
-    let Q : Drilling → Type 0 = λ d. IfOk c.screen_act.result (λ made. slice_get (round_acts d.counts) d.place ≡ made) in
+    let P : List Act → Type 0 = λ acts. OnOk c.screen_act.result (slice_get acts c.self.inside.place ≡ Some c.screen_act.new.act) in
+    let Q : Drilling → Type 0 = λ d. OnOk c.screen_act.result (slice_get (round_acts d.counts) d.place ≡ Some c.screen_act.new.act) in
     subst Q c.self.view_is (subst P (acts-are c.self.inside.round c.self.inside.counts Screen c.in-Screen.is c.self.invariant.0) c.screen_act.ensures.act)
