@@ -8,6 +8,9 @@ ghost use Rattle.ibos_fields.specs.Printable.{is_printable};
 
 use std::simd::prelude::*;
 
+// The lower-case digits, by their value.
+const LOWER: [u8; 16] = *b"0123456789abcdef";
+
 /// Whether the first 16 bytes are printable.
 #[inline(always)]
 pub fn is_printable_block(text: &[u8]) -> bool
@@ -75,22 +78,12 @@ pub fn encode_block(bytes: &[u8]) -> ([u8; 16], [u8; 16])
 fn high_digits(bytes: u8x16) -> u8x16
     ensures { result ≡ map (λ b. slice_index lower_digits (b / 16)) bytes }
 {
-    let values = bytes >> u8x16::splat(4);
-    let is_decimal = values.simd_lt(u8x16::splat(10));
-    is_decimal.select(
-        values + u8x16::splat(b'0'),
-        values + u8x16::splat(b'a' - 10),
-    )
+    u8x16::from_array(LOWER).swizzle_dyn(bytes >> u8x16::splat(4))
 }
 
 #[inline(always)]
 fn low_digits(bytes: u8x16) -> u8x16
     ensures { result ≡ map (λ b. slice_index lower_digits (b % 16)) bytes }
 {
-    let values = bytes & u8x16::splat(15);
-    let is_decimal = values.simd_lt(u8x16::splat(10));
-    is_decimal.select(
-        values + u8x16::splat(b'0'),
-        values + u8x16::splat(b'a' - 10),
-    )
+    u8x16::from_array(LOWER).swizzle_dyn(bytes & u8x16::splat(15))
 }

@@ -1,14 +1,14 @@
 use Rattle.std.proofs.Common.{ℕ, refl}
 use Rattle.std.proofs.lemmas.Simd.{zip2_splat}
-use Rattle.ibos_fields.proofs.VectorLanes.{combined, splat_is, chosen, lanes_are}
+use Rattle.ibos_fields.specs.declared.lanes.TheConstants.{LOWER}
+use Rattle.ibos_fields.proofs.VectorLanes.{lanes_are, looked_up, places_ok}
 use Rattle.ibos_fields.proofs.EncodedDigits.{high}
 use Rattle.ibos_fields.proofs.lanes.high_digits.Goals as goal
+
+pub swizzle : goal.swizzle
+swizzle c = places_ok _ c.args.bytes _ c.fits-bytes (zip2_splat {Y = ℕ} _ c.args.bytes 16 4 c.fits-bytes.0) refl
 
 pub returns : goal.returns
 returns c =
     let v = c.args.bytes in
-    let long = c.fits-bytes.0 in
-    let values = zip2_splat {Y = ℕ} _ v 16 4 long in
-    let is_decimal = combined _ _ _ v values (splat_is v 16 10 long) in
-    let digits = chosen _ _ _ v is_decimal (combined _ _ _ v values (splat_is v 16 48 long)) (combined _ _ _ v values (splat_is v 16 87 long)) in
-    lanes_are _ high v _ c.fits-bytes.1 digits refl
+    lanes_are _ high v _ c.fits-bytes.1 (looked_up LOWER _ v _ c.fits-bytes (zip2_splat {Y = ℕ} _ v 16 4 c.fits-bytes.0) refl) refl
