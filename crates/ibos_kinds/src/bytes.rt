@@ -114,6 +114,18 @@ impl Bytes {
         })
     }
 
+    /// A vector of its own with the bytes of two pieces, which takes its memory once.
+    #[inline(always)]
+    pub fn from_two(alloc: Global, first: &[u8], second: &[u8]) -> Result<Bytes, Memory>
+        ensures { IfOk result (λ made. made ≡ first.now ++ second.now) }
+    {
+        let mut long = Vec::new(alloc);
+        long.reserve(first.len().saturating_add(second.len()))?;
+        long.extend_from_slice(first)?;
+        long.extend_from_slice(second)?;
+        Ok(Bytes::from(long))
+    }
+
     /// The bytes, lent.
     pub fn as_slice(&self) -> &[u8]
         ensures { result.now ≡ self.now }

@@ -37,6 +37,7 @@ pub fn sum16(bytes: &[u8]) -> u16
 
 // A word and the words in a piece, summed. Two words are added as one number: its higher word
 // counts as often as its weight, 65536, which carries to 1.
+#[inline(always)]
 fn with_piece(start: u16, piece: &[u8]) -> u16
     requires { length piece.now ≤ PIECE }
     ensures { result ≡ carried (start + plain_sum piece.now) }
@@ -51,6 +52,7 @@ fn with_piece(start: u16, piece: &[u8]) -> u16
 }
 
 // The words in the last bytes, fewer than four.
+#[inline(always)]
 fn last_words(rest: &[u8]) -> u64
     requires { length rest.now < 4 }
     ensures within { result < 2 ^ 32 }
@@ -65,6 +67,7 @@ fn last_words(rest: &[u8]) -> u64
 }
 
 // A sum in 16 bits, its carries added in.
+#[inline(always)]
 fn carried(total: u64) -> u16
     ensures { result ≡ carried total }
 {

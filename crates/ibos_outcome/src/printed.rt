@@ -1,5 +1,5 @@
 // The text of an outcome.
-ghost use Rattle.std.specs.Prelude.{◌≡◌, ◌<◌, ◌++◌, [], ◌∷◌, length, IfOk, OnOk, OnErr, codes};
+ghost use Rattle.std.specs.Prelude.{◌≡◌, ◌<◌, ◌≤◌, ◌++◌, [], ◌∷◌, length, take, IfOk, OnOk, OnErr, codes};
 ghost use Rattle.std.specs.Prelude.{decimal};
 ghost use Rattle.hex.specs.Hex.{encode_lower};
 ghost use Rattle.ibos_outcome.specs.Printed as spec;
@@ -14,6 +14,9 @@ use std::alloc::Global;
 
 // So many bytes are written in hexadecimal at once.
 const BLOCK: usize = 16;
+
+// And so many before one append.
+const WIDE: usize = 4 * BLOCK;
 
 /// Appends the lines of an outcome, each with the act's number: one for its head, and one for each
 /// item. Where memory runs out a front of these lines is appended.
@@ -558,8 +561,32 @@ fn push_hex(text: &mut Bytes, bytes: &[u8]) -> Result<(), Memory>
     push_digits(text, bytes)
 }
 
-// Appends two digits for each byte: those of 16 bytes at a time, and then of the few that are left.
+// Appends two digits for each byte: those of 64 bytes at a time, of 16, and then of the few that are
+// left.
 fn push_digits(text: &mut Bytes, bytes: &[u8]) -> Result<(), Memory>
+    ensures { Appends result text.old text.new (encode_lower bytes.now) }
+{
+    let mut at = 0;
+    while bytes.len() - at >= WIDE {
+        push_wide(text, &bytes[at..])?;
+        at += WIDE;
+    }
+    push_blocks(text, &bytes[at..])
+}
+
+#[inline(always)]
+fn push_wide(text: &mut Bytes, bytes: &[u8]) -> Result<(), Memory>
+    requires { WIDE ≤ length bytes.now }
+    ensures { Appends result text.old text.new (encode_lower (take WIDE bytes.now)) }
+{
+    let (a, b) = encode_block(bytes);
+    let (c, d) = encode_block(&bytes[BLOCK..]);
+    let (e, f) = encode_block(&bytes[2 * BLOCK..]);
+    let (g, h) = encode_block(&bytes[3 * BLOCK..]);
+    text.push_slice([a, b, c, d, e, f, g, h].as_slice().as_flattened())
+}
+
+fn push_blocks(text: &mut Bytes, bytes: &[u8]) -> Result<(), Memory>
     ensures { Appends result text.old text.new (encode_lower bytes.now) }
 {
     let mut at = 0;
