@@ -1,4 +1,4 @@
-use Rattle.std.proofs.Common.{◌-◌, ℕ, List, ◌++◌, length, take, drop, sym, ◌∙◌, ap, subst, arith}
+use Rattle.std.proofs.Common.{◌-◌, ℕ, List, ◌++◌, length, take, drop, sym, ◌∙◌, ap, subst, refl, arith}
 use Rattle.hex.specs.Hex.{encode_lower}
 use Rattle.std.proofs.lemmas.List.{append-nil}
 use Rattle.std.proofs.lemmas.Result.{err_from_is_err_and}
@@ -13,22 +13,22 @@ loop-at-init c = record {
   written = sym (ap (λ digits. c.args.text.now ++ digits) encode_lower-none ∙ append-nil c.args.text.now);
 }
 
-pub returns-in_err-push_two : goal.returns-in_err-push_two
-returns-in_err-push_two c =
+pub returns-in_err-push_wide : goal.returns-in_err-push_wide
+returns-in_err-push_wide c =
     let p = err_from_is_err_and c.from_residual.result c.from_residual.ensures.1 in rw p.1
-    (IsCutShort-block c.args.bytes.now c.loop-at.at c.args.text.now c.loop-at.text c.push_two.new.text
-    (c.encode_block.result.0 ++ c.encode_block.result.1) c.loop-at.invariant.written c.encode_block.ensures c.in_err-push_two.ensures)
+    (IsCutShort-block 64 c.args.bytes.now c.loop-at.at c.args.text.now c.loop-at.text c.push_wide.new.text
+    (encode_lower (take 64 (take (length c.args.bytes.now - c.loop-at.at) (drop c.loop-at.at c.args.bytes.now)))) c.loop-at.invariant.written refl c.in_err-push_wide.ensures)
 
 pub loop-at-preserved : goal.loop-at-preserved
 loop-at-preserved c = record {
   within = omega (arith, c.loop-at.invariant.within, c.loop-at-test.true);
-  written = written-more c.args.bytes.now c.loop-at.at c.args.text.now c.loop-at.text c.push_two.new.text
-      (c.encode_block.result.0 ++ c.encode_block.result.1) c.loop-at.invariant.written c.encode_block.ensures c.in_ok-push_two.ensures;
+  written = written-more 64 c.args.bytes.now c.loop-at.at c.args.text.now c.loop-at.text c.push_wide.new.text
+      (encode_lower (take 64 (take (length c.args.bytes.now - c.loop-at.at) (drop c.loop-at.at c.args.bytes.now)))) c.loop-at.invariant.written refl c.in_ok-push_wide.ensures;
 }
 
 pub returns : goal.returns
 returns c =
-    let P : List ℕ → Type 0 = λ x. Appends c.push_few.result c.args.text.now c.push_few.new.text x in
+    let P : List ℕ → Type 0 = λ x. Appends c.push_blocks.result c.args.text.now c.push_blocks.new.text x in
     subst P (encode_lower-rest c.args.bytes.now c.loop-at.at)
-    (Appends-second c.push_few.result c.args.text.now c.loop-at.text c.push_few.new.text (encode_lower (take c.loop-at.at c.args.bytes.now))
-    (encode_lower (take (length c.args.bytes.now - c.loop-at.at) (drop c.loop-at.at c.args.bytes.now))) c.loop-at.invariant.written c.push_few.ensures)
+    (Appends-second c.push_blocks.result c.args.text.now c.loop-at.text c.push_blocks.new.text (encode_lower (take c.loop-at.at c.args.bytes.now))
+    (encode_lower (take (length c.args.bytes.now - c.loop-at.at) (drop c.loop-at.at c.args.bytes.now))) c.loop-at.invariant.written c.push_blocks.ensures)
