@@ -80,9 +80,8 @@ impl Jar {
                     return Err(CookieFault::Denied(Rule::C3));
                 }
                 let at = value_at(&self.lens, index);
-                splice(&mut self.room, text, at, len, value)?;
+                replace(&mut self.text, &mut self.room, at, len, value)?;
                 self.lens[index] = value.len();
-                swap(&mut self.text, &mut self.room);
                 Ok(())
             }
             None => {
@@ -154,6 +153,29 @@ fn value_at(lens: &Lens, index: usize) -> usize
         left -= 1;
     }
     at
+}
+
+// Puts a value in place of what stands at one place of a text: over it where it is as long, since
+// most values are.
+fn replace(
+    text: &mut Vec<u8>,
+    room: &mut Vec<u8>,
+    at: usize,
+    len: usize,
+    value: &[u8],
+) -> Result<(), Memory>
+    requires { at + len ≤ length text.old.items }
+    ensures ok { OnOk result (text.new.items ≡ take at text.old.items ++ value.now
+        ++ drop (at + len) text.old.items) }
+    ensures err { OnErr result (text.new.items ≡ text.old.items) }
+{
+    if value.len() == len {
+        text[at..at + len].copy_from_slice(value);
+        return Ok(());
+    }
+    splice(room, text.as_slice(), at, len, value)?;
+    swap(text, room);
+    Ok(())
 }
 
 // Makes a text that has a value in place of what stands at one place of another text.

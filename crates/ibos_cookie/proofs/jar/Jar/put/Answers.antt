@@ -58,12 +58,12 @@ value_at-at-requires c =
     let size = sizes c.args.name.now c.args.value.now _ _ _ is _ _ c.len-count.ensures.len (lens _ _ c.as_slice-text.ensures.value) in
     size.small
 
-pub splice-requires : goal.splice-requires
-splice-requires c =
+pub replace-requires : goal.replace-requires
+replace-requires c =
     let is = stands _ _ _ _ c.self.view_is c.self.invariant in
     let at = found_at c.args.name.now _ _ _ c.in-Some.ensures.index c.in-Some.ensures.value in
     let within = place_within c.args.name.now c.args.value.now _ _ _ is _ _ at in
-    omega (arith, within, c.value_at-at.ensures, ap (λ (t : List ℕ). length t) c.as_slice-text.ensures.value)
+    omega (arith, within, c.value_at-at.ensures)
 
 -- the jar would pass a limit
 
@@ -89,33 +89,31 @@ invariant_of-self-in-Some c =
     let is = stands _ _ _ _ c.self.view_is c.self.invariant in
     let at = found_at c.args.name.now _ _ _ c.in-Some.ensures.index c.in-Some.ensures.value in
     let over = over_held c.args.name.now c.args.value.now _ _ _ is _ _ at _ _ c.len-count.ensures.len (lens _ _ c.as_slice-text.ensures.value) in
-    let text : c.swap.new.x.items ≡ take (value_at c.self.inside.lens.entries c.in-Some.index) c.self.inside.text.items ++ c.args.value.now
+    let text : c.replace.new.text.items ≡ take (value_at c.self.inside.lens.entries c.in-Some.index) c.self.inside.text.items ++ c.args.value.now
     ++ drop (value_at c.self.inside.lens.entries c.in-Some.index + c.in-Some.len.now) c.self.inside.text.items =
-    ap (λ (v : Vec ℕ). v.items) c.swap.ensures.x_after ∙ c.in_ok-splice-in-Some.ensures
-    ∙ ap (λ n. take n c.as_slice-text.result.now ++ c.args.value.now ++ drop (n + c.in-Some.len.now) c.as_slice-text.result.now) c.value_at-at.ensures
-    ∙ ap (λ t. take (value_at c.self.inside.lens.entries c.in-Some.index) t ++ c.args.value.now ++ drop (value_at c.self.inside.lens.entries c.in-Some.index + c.in-Some.len.now) t) c.as_slice-text.ensures.value in
-    let made = jar_held c.args.name.now c.args.value.now _ _ _ is _ _ at c.swap.new.x.items text (sym over ∙ sym c.passes_limit.ensures ∙ c.if-passes_limit.false) in
+    c.in_ok-replace-in-Some.ensures.ok
+    ∙ ap (λ n. take n c.self.inside.text.items ++ c.args.value.now ++ drop (n + c.in-Some.len.now) c.self.inside.text.items) c.value_at-at.ensures in
+    let made = jar_held c.args.name.now c.args.value.now _ _ _ is _ _ at c.replace.new.text.items text (sym over ∙ sym c.passes_limit.ensures ∙ c.if-passes_limit.false) in
     is_jar _ _ _ made
 
-pub returns-in_ok-splice-in-Some-clause-answer : goal.returns-in_ok-splice-in-Some-clause-answer
+pub returns-in_ok-replace-in-Some-clause-answer : goal.returns-in_ok-replace-in-Some-clause-answer
 unfolding full
-returns-in_ok-splice-in-Some-clause-answer c =
+returns-in_ok-replace-in-Some-clause-answer c =
     let is = stands _ _ _ _ c.self.view_is c.self.invariant in
     let at = found_at c.args.name.now _ _ _ c.in-Some.ensures.index c.in-Some.ensures.value in
     let over = over_held c.args.name.now c.args.value.now _ _ _ is _ _ at _ _ c.len-count.ensures.len (lens _ _ c.as_slice-text.ensures.value) in
     ap full (sym (c.passes_limit.ensures ∙ over) ∙ c.if-passes_limit.false)
 
-pub returns-in_ok-splice-in-Some-clause-ok : goal.returns-in_ok-splice-in-Some-clause-ok
-returns-in_ok-splice-in-Some-clause-ok c =
+pub returns-in_ok-replace-in-Some-clause-ok : goal.returns-in_ok-replace-in-Some-clause-ok
+returns-in_ok-replace-in-Some-clause-ok c =
     let is = stands _ _ _ _ c.self.view_is c.self.invariant in
     let at = found_at c.args.name.now _ _ _ c.in-Some.ensures.index c.in-Some.ensures.value in
     let over = over_held c.args.name.now c.args.value.now _ _ _ is _ _ at _ _ c.len-count.ensures.len (lens _ _ c.as_slice-text.ensures.value) in
-    let text : c.swap.new.x.items ≡ take (value_at c.self.inside.lens.entries c.in-Some.index) c.self.inside.text.items ++ c.args.value.now
+    let text : c.replace.new.text.items ≡ take (value_at c.self.inside.lens.entries c.in-Some.index) c.self.inside.text.items ++ c.args.value.now
     ++ drop (value_at c.self.inside.lens.entries c.in-Some.index + c.in-Some.len.now) c.self.inside.text.items =
-    ap (λ (v : Vec ℕ). v.items) c.swap.ensures.x_after ∙ c.in_ok-splice-in-Some.ensures
-    ∙ ap (λ n. take n c.as_slice-text.result.now ++ c.args.value.now ++ drop (n + c.in-Some.len.now) c.as_slice-text.result.now) c.value_at-at.ensures
-    ∙ ap (λ t. take (value_at c.self.inside.lens.entries c.in-Some.index) t ++ c.args.value.now ++ drop (value_at c.self.inside.lens.entries c.in-Some.index + c.in-Some.len.now) t) c.as_slice-text.ensures.value in
-    let made = jar_held c.args.name.now c.args.value.now _ _ _ is _ _ at c.swap.new.x.items text (sym over ∙ sym c.passes_limit.ensures ∙ c.if-passes_limit.false) in
+    c.in_ok-replace-in-Some.ensures.ok
+    ∙ ap (λ n. take n c.self.inside.text.items ++ c.args.value.now ++ drop (n + c.in-Some.len.now) c.self.inside.text.items) c.value_at-at.ensures in
+    let made = jar_held c.args.name.now c.args.value.now _ _ _ is _ _ at c.replace.new.text.items text (sym over ∙ sym c.passes_limit.ensures ∙ c.if-passes_limit.false) in
     jar_is _ _ _ made
 
 -- a new cookie
@@ -124,10 +122,10 @@ pub invariant_of-self-in-None : goal.invariant_of-self-in-None
 invariant_of-self-in-None c =
     let is = stands _ _ _ _ c.self.view_is c.self.invariant in
     let over = over_new c.args.name.now c.args.value.now _ _ _ is (sym c.in-None.ensures.value) _ _ c.len-count.ensures.len (lens _ _ c.as_slice-text.ensures.value) in
-    let text : c.swap-in-None.new.x.items ≡ c.self.inside.text.items ++ front c.args.name.now ++ c.args.value.now =
-    ap (λ (v : Vec ℕ). v.items) c.swap-in-None.ensures.x_after ∙ c.in_ok-append-in-None.ensures ∙ ap (λ t. t ++ front c.args.name.now ++ c.args.value.now) c.as_slice-text.ensures.value in
-    let made = jar_new c.args.name.now c.args.value.now _ _ _ is (sym c.in-None.ensures.value) c.in_ok-from_slice-in-None.field-0 c.swap-in-None.new.x.items c.in_ok-from_slice-in-None.ensures.items text (sym over ∙ sym c.passes_limit-in-None.ensures ∙ c.if-passes_limit-2.false) in
-    let P : List (Vec ℕ × ℕ) → Type 0 = λ entries. IsJar entries c.swap-in-None.new.x.items (put (record { name = c.args.name.now; value = c.args.value.now }) c.args.self.now) in
+    let text : c.swap.new.x.items ≡ c.self.inside.text.items ++ front c.args.name.now ++ c.args.value.now =
+    ap (λ (v : Vec ℕ). v.items) c.swap.ensures.x_after ∙ c.in_ok-append-in-None.ensures ∙ ap (λ t. t ++ front c.args.name.now ++ c.args.value.now) c.as_slice-text.ensures.value in
+    let made = jar_new c.args.name.now c.args.value.now _ _ _ is (sym c.in-None.ensures.value) c.in_ok-from_slice-in-None.field-0 c.swap.new.x.items c.in_ok-from_slice-in-None.ensures.items text (sym over ∙ sym c.passes_limit-in-None.ensures ∙ c.if-passes_limit-2.false) in
+    let P : List (Vec ℕ × ℕ) → Type 0 = λ entries. IsJar entries c.swap.new.x.items (put (record { name = c.args.name.now; value = c.args.value.now }) c.args.self.now) in
     let whole = subst P (sym c.in_ok-insert-in-None.ensures.entries) made in
     is_jar _ _ _ whole
 
@@ -142,9 +140,9 @@ pub returns-in_ok-insert-in-None-clause-ok : goal.returns-in_ok-insert-in-None-c
 returns-in_ok-insert-in-None-clause-ok c =
     let is = stands _ _ _ _ c.self.view_is c.self.invariant in
     let over = over_new c.args.name.now c.args.value.now _ _ _ is (sym c.in-None.ensures.value) _ _ c.len-count.ensures.len (lens _ _ c.as_slice-text.ensures.value) in
-    let text : c.swap-in-None.new.x.items ≡ c.self.inside.text.items ++ front c.args.name.now ++ c.args.value.now =
-    ap (λ (v : Vec ℕ). v.items) c.swap-in-None.ensures.x_after ∙ c.in_ok-append-in-None.ensures ∙ ap (λ t. t ++ front c.args.name.now ++ c.args.value.now) c.as_slice-text.ensures.value in
-    let made = jar_new c.args.name.now c.args.value.now _ _ _ is (sym c.in-None.ensures.value) c.in_ok-from_slice-in-None.field-0 c.swap-in-None.new.x.items c.in_ok-from_slice-in-None.ensures.items text (sym over ∙ sym c.passes_limit-in-None.ensures ∙ c.if-passes_limit-2.false) in
-    let P : List (Vec ℕ × ℕ) → Type 0 = λ entries. IsJar entries c.swap-in-None.new.x.items (put (record { name = c.args.name.now; value = c.args.value.now }) c.args.self.now) in
+    let text : c.swap.new.x.items ≡ c.self.inside.text.items ++ front c.args.name.now ++ c.args.value.now =
+    ap (λ (v : Vec ℕ). v.items) c.swap.ensures.x_after ∙ c.in_ok-append-in-None.ensures ∙ ap (λ t. t ++ front c.args.name.now ++ c.args.value.now) c.as_slice-text.ensures.value in
+    let made = jar_new c.args.name.now c.args.value.now _ _ _ is (sym c.in-None.ensures.value) c.in_ok-from_slice-in-None.field-0 c.swap.new.x.items c.in_ok-from_slice-in-None.ensures.items text (sym over ∙ sym c.passes_limit-in-None.ensures ∙ c.if-passes_limit-2.false) in
+    let P : List (Vec ℕ × ℕ) → Type 0 = λ entries. IsJar entries c.swap.new.x.items (put (record { name = c.args.name.now; value = c.args.value.now }) c.args.self.now) in
     let whole = subst P (sym c.in_ok-insert-in-None.ensures.entries) made in
     jar_is _ _ _ whole
