@@ -276,6 +276,18 @@ takes_none (TxPost slot send) = true
 takes_none (StoreLose origin key version) = true
 takes_none other = false
 
+-- the act is one of cookies or of stored objects: it starts and ends no instance, and nothing of it
+-- is seen
+abbrev pub is_quiet : Act → Bool
+is_quiet (CookieSet side who text) = true
+is_quiet (CookieGet side who) = true
+is_quiet (Put who key bytes) = true
+is_quiet (Ask who key) = true
+is_quiet (StoreAnswer request who origin key version bytes) = true
+is_quiet (StoreNone request who origin key) = true
+is_quiet (StoreLose origin key version) = true
+is_quiet other = false
+
 -- an act's outcome and the parts after it, before requests follow their instances and the chrome is
 -- written again
 pub record Makes (old : Parts) (act : Act) (outcome : Outcome) (new : Parts) : Type 0 where

@@ -9,12 +9,16 @@ ghost use Rattle.ibos_make.specs.Building.{parts_with, ip_checksum_for, written,
 ghost use Rattle.ibos_make.specs.Building.{receiver, sender, HasAddrs, HasPorts};
 
 use crate::fields::{ethernet, ipv4, tcp, udp};
+use arrayvec::ArrayVec;
 use ibos_kinds::{Bytes, Dir, Endpoint, Memory, Proto, sum_words, sum16};
 use ibos_tcp::pseudo_sum;
 use std::alloc::Global;
 
 // The type of IPv4.
 const IPV4: u16 = 0x0800;
+
+// The most bytes that the headers of a frame have: 14, 20, and 20 of TCP.
+const MOST_HEADERS: usize = 54;
 
 // What each header of IPv4 says (RFC 791, 3.1): version 4 and a length of five words, the flag DF
 // and no offset, and a life of so many hops.
@@ -109,6 +113,7 @@ pub fn build(alloc: Global, spec: &FrameSpec) -> Result<Bytes, Memory>
 }
 
 // The frame, in its layout.
+#[inline(always)]
 fn laid_out(alloc: Global, spec: &FrameSpec) -> Result<Bytes, Memory>
     requires { length spec.now.payload ≤ 1460 }
     ensures bytes { IfOk result (λ frame. frame ≡ frame_bytes (parts_for spec.now)) }
@@ -128,6 +133,7 @@ fn laid_out(alloc: Global, spec: &FrameSpec) -> Result<Bytes, Memory>
 }
 
 // The frame, the segment's header given.
+#[inline(always)]
 fn joined(alloc: Global, spec: &FrameSpec, header: &[u8]) -> Result<Bytes, Memory>
     requires payload { length spec.now.payload ≤ 1460 }
     requires header { length header.now ≤ 20 }
@@ -138,16 +144,26 @@ fn joined(alloc: Global, spec: &FrameSpec, header: &[u8]) -> Result<Bytes, Memor
         ++ spec.now.payload) }
 {
     let checksum = sum16(&ip_header(spec, 0));
-    let mut frame = Bytes::new(alloc);
-    frame.reserve(ethernet::HEADER_LEN + ipv4::HEADER_LEN + header.len() + spec.payload.len())?;
-    frame.push_slice(&eth_header(spec))?;
-    frame.push_slice(&ip_header(spec, checksum))?;
-    frame.push_slice(header)?;
-    frame.push_slice(spec.payload.as_slice())?;
-    Ok(frame)
+    let mut front = ArrayVec::<u8, MOST_HEADERS>::new();
+    push(&mut front, &eth_header(spec));
+    push(&mut front, &ip_header(spec, checksum));
+    push(&mut front, header);
+    Bytes::from_two(alloc, front.as_slice(), spec.payload.as_slice())
+}
+
+// Appends to the headers of a frame.
+#[inline(always)]
+fn push(front: &mut ArrayVec<u8, MOST_HEADERS>, header: &[u8])
+    requires { length front.old.items + length header.now ≤ MOST_HEADERS }
+    ensures { front.new.items ≡ front.old.items ++ header.now }
+{
+    if front.try_extend_from_slice(header).is_err() {
+        unreachable!()
+    }
 }
 
 // The checksum over a segment, its header given.
+#[inline(always)]
 #[tactic(auto, unfolding(ibos_kinds::specs::Sums::sum16))]
 fn checksum(spec: &FrameSpec, header: &[u8]) -> u16
     requires payload { length spec.now.payload ≤ 1460 }
@@ -171,6 +187,7 @@ fn shown(checksum: u16) -> u16
 }
 
 // The header of Ethernet.
+#[inline(always)]
 fn eth_header(spec: &FrameSpec) -> [u8; 14]
     ensures { result ≡ bytes_high_first 6 spec.now.to ++ bytes_high_first 6 spec.now.from
         ++ bytes_high_first 2 0x0800 }
@@ -183,6 +200,7 @@ fn eth_header(spec: &FrameSpec) -> [u8; 14]
 }
 
 // The header of IPv4, with a checksum. Type of service and identification are 0.
+#[inline(always)]
 fn ip_header(spec: &FrameSpec, checksum: u16) -> [u8; 20]
     requires { length spec.now.payload ≤ 1460 }
     ensures bytes { result ≡ ip_bytes (ip_for spec.now checksum) }
@@ -202,6 +220,7 @@ fn ip_header(spec: &FrameSpec, checksum: u16) -> [u8; 20]
 }
 
 // The header of TCP, with a checksum. The urgent pointer is 0.
+#[inline(always)]
 fn tcp_header(spec: &FrameSpec, checksum: u16) -> [u8; 20]
     requires { spec.now.proto ≡ Proto.Tcp }
     ensures bytes { (ip : ℕ) → result ≡ segment_bytes (parts_with spec.now ip checksum) }
@@ -220,6 +239,7 @@ fn tcp_header(spec: &FrameSpec, checksum: u16) -> [u8; 20]
 }
 
 // The header of UDP, with a checksum.
+#[inline(always)]
 fn udp_header(spec: &FrameSpec, checksum: u16) -> [u8; 8]
     requires proto { spec.now.proto ≡ Proto.Udp }
     requires payload { length spec.now.payload ≤ 1460 }

@@ -102,6 +102,7 @@ impl Drill {
 
     /// The same, but the act takes the place of one that the caller has, and the answer is whether
     /// there was one: an act is large, and a call that answers it copies it.
+    #[inline(always)]
     pub fn next_into(&mut self, alloc: Global, act: &mut Act) -> Result<bool, Memory>
         ensures none { IfOk result (λ more. more ≡ false ↔ left self.old ≡ []) }
         ensures some { IfOk result (λ more.
@@ -123,6 +124,7 @@ impl Drill {
     }
 
     // The next act of a round.
+    #[inline(always)]
     fn round_act(&mut self, alloc: Global, act: &mut Act) -> Result<(), Memory>
         requires { 0 < self.old.rounds }
         ensures act { OnOk result
@@ -153,16 +155,29 @@ impl Drill {
     }
 
     /// One more act of a round came.
+    #[inline(always)]
     pub(crate) fn go_on(&mut self)
         requires { 0 < self.old.rounds }
         ensures { self.new ≡ next_in self.old }
     {
-        self.place += 1;
-        if self.place == round_len(self.round.kind) {
-            self.rounds -= 1;
-            self.place = 0;
-            self.counts.count(self.round);
-            self.round = self.counts.round();
+        let place = self.place + 1;
+        if place == round_len(self.round.kind) {
+            self.begin_round();
+        } else {
+            self.place = place;
         }
+    }
+
+    // The last act of a round came.
+    #[inline(never)]
+    fn begin_round(&mut self)
+        requires some { 0 < self.old.rounds }
+        requires last { self.old.place + 1 ≡ length (round_acts self.old.counts) }
+        ensures { self.new ≡ next_in self.old }
+    {
+        self.rounds -= 1;
+        self.place = 0;
+        self.counts.count(self.round);
+        self.round = self.counts.round();
     }
 }
