@@ -10,7 +10,8 @@ use Rattle.ibos_kinds.specs.declared.act.Act.{Act}
 use Rattle.ibos_kinds.specs.declared.act.Act.TheVariants.{Start, Switch, Close, Press, Click, Look}
 use Rattle.ibos_kinds.specs.declared.act.Act.TheVariants.{Go, Draw, CookieSet, CookieGet}
 use Rattle.ibos_kinds.specs.declared.act.Act.TheVariants.{Unbind, Done, RegWrite, RxPost}
-use Rattle.ibos_kinds.specs.declared.act.Act.TheVariants.{Fill, TxPost, StoreLose}
+use Rattle.ibos_kinds.specs.declared.act.Act.TheVariants.{Fill, TxPost, Put, Ask, StoreAnswer}
+use Rattle.ibos_kinds.specs.declared.act.Act.TheVariants.{StoreNone, StoreLose}
 use Rattle.ibos_kinds.specs.declared.outcome.Outcome.{Outcome}
 use Rattle.ibos_kinds.specs.declared.outcome.Item.TheVariants.{Opened, Moved as ItemMoved, Ended}
 use Rattle.ibos_kinds.specs.declared.outcome.Item.TheVariants.{Cookies}
@@ -283,8 +284,8 @@ is_quiet (CookieSet side who text) = true
 is_quiet (CookieGet side who) = true
 is_quiet (Put who key bytes) = true
 is_quiet (Ask who key) = true
-is_quiet (StoreAnswer request who origin key version bytes) = true
-is_quiet (StoreNone request who origin key) = true
+is_quiet (StoreAnswer who request origin key version) = true
+is_quiet (StoreNone who request) = true
 is_quiet (StoreLose origin key version) = true
 is_quiet other = false
 

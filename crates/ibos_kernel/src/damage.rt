@@ -7,6 +7,7 @@ ghost use Rattle.ibos_frame.specs.ScreenStates.{chrome_at, content_of};
 ghost use Rattle.ibos_model.specs.Focus.{is_tab};
 ghost use Rattle.ibos_model.specs.Screen.{state_text, entry_line_text};
 ghost use Rattle.ibos_kernel.specs.Tables.{bar_at, is_entry};
+ghost use Rattle.ibos_kernel.specs.Tables as tables;
 ghost use Rattle.ibos_kernel.specs.DamagedRows as spec;
 
 use crate::chrome::{Row, bar_row, entry_row, state_row};
@@ -23,6 +24,18 @@ pub struct Damage {
     pub state: bool,
     pub bar: bool,
     pub entry: bool,
+}
+
+/// Whether an act is one of cookies or of stored objects, of which nothing is seen.
+pub fn is_quiet(act: &Act) -> bool
+    ensures { result ≡ tables.is_quiet act.now }
+{
+    match act {
+        Act::CookieSet { .. } | Act::CookieGet { .. } => true,
+        Act::Put { .. } | Act::Ask { .. } => true,
+        Act::StoreAnswer { .. } | Act::StoreNone { .. } | Act::StoreLose { .. } => true,
+        _ => false,
+    }
 }
 
 /// The rows whose texts an act may change, if it is accepted.

@@ -33,6 +33,7 @@ use ibos_route::admit;
 use std::alloc::Global;
 
 /// Makes one act, in the half that it is of, and fills `out`, which is as new, with its outcome.
+#[inline(always)]
 pub fn serve<N: Nic>(
     pages: &mut Parts,
     net: &mut Net,

@@ -17,12 +17,13 @@ ghost use Rattle.ibos_kernel.specs.DamagedRows.{is_damaged};
 ghost use Rattle.ibos_kernel.specs.Tables.{Makes, takes_none, IsTied, IsComposed, IsBeside};
 ghost use Rattle.ibos_kernel.specs.Tables.{IsOpenWhereLive, Serves, chrome_by, is_live};
 ghost use Rattle.ibos_kernel.specs.Tables.{requests_after};
+ghost use Rattle.ibos_kernel.specs.Tables as tables;
 ghost use Rattle.ibos_kernel.specs.Storage.{IsAskedWhereLive, IsFew, asked_by};
 ghost use Rattle.ibos_store.specs.Stores.{requests_of};
 ghost use Rattle.ibos_model.specs.Stored.{is_about};
 
 use crate::cookies::{get, set};
-use crate::damage::{Damage, damage_of, write_bar, write_entry, write_state};
+use crate::damage::{Damage, damage_of, is_quiet, write_bar, write_entry, write_state};
 use crate::input::{click, is_accepted, press};
 use crate::instances::{ended_in, opened_in};
 use crate::screens::look;
@@ -83,6 +84,11 @@ impl Parts {
             out.head = Head::Denied(rule);
             return Ok(());
         }
+        // The screen stays as it is.
+        if is_quiet(act) {
+            self.make_quiet(alloc, act, out)?;
+            return Ok(());
+        }
         let damage = damage_of(&self.tabs, &self.focus, act);
         self.make_and_follow(alloc, act, out)?;
         if is_accepted(out) {
@@ -94,6 +100,7 @@ impl Parts {
     // Makes an act that is admitted. Requests end with their instance, and one that starts has none.
     fn make_and_follow(&mut self, alloc: Global, act: &Act, out: &mut Outcome) -> Result<(), Memory>
         requires pages { is_net act.now ≡ false }
+        requires seen { tables.is_quiet act.now ≡ false }
         requires fits { Fits act.now }
         requires admitted { admission_of self.old.tabs act.now ≡ None }
         requires tied { IsTied self.old.tabs self.old.screen self.old.focus }
@@ -116,6 +123,7 @@ impl Parts {
 
     fn make(&mut self, alloc: Global, act: &Act, out: &mut Outcome) -> Result<(), Memory>
         requires pages { is_net act.now ≡ false }
+        requires seen { tables.is_quiet act.now ≡ false }
         requires fits { Fits act.now }
         requires admitted { admission_of self.old.tabs act.now ≡ None }
         requires tied { IsTied self.old.tabs self.old.screen self.old.focus }
@@ -153,19 +161,44 @@ impl Parts {
                     out.head = Head::Denied(rule);
                 }
             }
+            // The acts of the net half, and those of which nothing is seen.
+            _ => unreachable!(),
+        }
+        Ok(())
+    }
+
+    // Makes an act that is admitted and of which nothing is seen. It starts and ends no instance.
+    fn make_quiet(&mut self, alloc: Global, act: &Act, out: &mut Outcome) -> Result<(), Memory>
+        requires quiet { tables.is_quiet act.now ≡ true }
+        requires admitted { admission_of self.old.tabs act.now ≡ None }
+        requires tied { IsTied self.old.tabs self.old.screen self.old.focus }
+        requires asked { IsAskedWhereLive self.old.tabs self.old.store }
+        requires few { IsFew self.old.store }
+        requires head { out.old.head ≡ Head.Ok }
+        requires items { out.old.items ≡ [] }
+        ensures makes { OnOk result (Makes self.old act.now out.new self.new) }
+        ensures requests { OnOk result ((q : Instance) → requests_of self.new.store q
+            ≡ asked_by (is_about q act.now) (is_ok out.new.head) act.now
+            (requests_of self.old.store q)) }
+        ensures screen { self.new.screen ≡ self.old.screen }
+        ensures free { takes_none act.now ≡ true → IsOk result }
+        ensures hosts { self.new.hosts ≡ self.old.hosts }
+    {
+        match act {
             Act::CookieSet { who, text, .. } => {
                 set(&mut self.jars, self.tabs.origin(*who), text.as_slice(), out)?;
             }
             Act::CookieGet { who, .. } => {
                 get(&self.jars, alloc, self.tabs.origin(*who), *who, out)?;
             }
-            Act::Put { .. } | Act::Ask { .. } | Act::StoreAnswer { .. } => {
+            Act::Put { .. }
+            | Act::Ask { .. }
+            | Act::StoreAnswer { .. }
+            | Act::StoreNone { .. }
+            | Act::StoreLose { .. } => {
                 make_stored(&self.tabs, &mut self.store, alloc, act, out)?;
             }
-            Act::StoreNone { .. } | Act::StoreLose { .. } => {
-                make_stored(&self.tabs, &mut self.store, alloc, act, out)?;
-            }
-            // The acts of the net half.
+            // The other acts.
             _ => unreachable!(),
         }
         Ok(())
