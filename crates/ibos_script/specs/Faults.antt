@@ -1,5 +1,6 @@
 -- What a line is answered, and the number and name under which its fault is printed.
-use Rattle.std.specs.Prelude.{◌≡◌, ℕ, List, [], Option, None, Some, Result, Ok, Err, codes}
+use Rattle.std.specs.Prelude.{◌≡◌, ℕ, List, [], Bool, true, false, Option, None, Some, Result}
+use Rattle.std.specs.Prelude.{Ok, Err, codes}
 use Rattle.ibos_script.specs.declared.fault.LineFault.{LineFault}
 use Rattle.ibos_script.specs.declared.fault.LineFault.TheVariants.{Long, Byte, Word, Count, Number}
 use Rattle.ibos_script.specs.declared.fault.LineFault.TheVariants.{Hex, Memory}
@@ -13,11 +14,17 @@ abbrev pub Gives : {T : Type 0} → Result T LineFault → Result T LineFault �
 Gives (Ok x) wanted = wanted ≡ Ok x
 Gives (Err fault) wanted = GivesFault fault wanted
 
--- the answer is some line, the one that is wanted, unless memory was wanting
-abbrev pub Tells : {T : Type 0} → Result (Option T) LineFault → Result T LineFault → Type 0
-Tells (Ok (Some line)) wanted = wanted ≡ Ok line
-Tells (Ok None) wanted = ⊥
-Tells (Err fault) wanted = GivesFault fault wanted
+-- what was made is the line that is wanted, unless memory was wanting
+abbrev pub Makes : {A T : Type 0} → Result A LineFault → T → Result T LineFault → Type 0
+Makes (Ok done) line wanted = wanted ≡ Ok line
+Makes (Err fault) line wanted = GivesFault fault wanted
+
+-- the same, where it is also told whether there is a line
+abbrev pub GivesInto : {T : Type 0} → Result Bool LineFault → T → Result (Option T) LineFault
+    → Type 0
+GivesInto (Ok true) line wanted = wanted ≡ Ok (Some line)
+GivesInto (Ok false) line wanted = wanted ≡ Ok None
+GivesInto (Err fault) line wanted = GivesFault fault wanted
 
 -- want of memory has none
 abbrev pub number_of : LineFault → ℕ

@@ -9,7 +9,7 @@ mod lines;
 pub use fault::LineFault;
 pub use ibos_outcome::{OutcomeFault, read_outcome, write_outcome};
 pub use laws::{lines_name_their_actor, spelled_acts_are_read};
-pub use lines::{Line, read_line};
+pub use lines::{Line, read_line, read_line_into};
 
 #[cfg(test)]
 mod tests;

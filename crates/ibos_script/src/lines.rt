@@ -1,7 +1,7 @@
 // The lines of a script.
-ghost use Rattle.std.specs.Prelude.{◌≡◌, IfOk, IfSome};
+ghost use Rattle.std.specs.Prelude.{◌≡◌, true, IfOk, IfSome, OnOk};
 ghost use Rattle.ibos_text.specs.Words.{first_word, after_word};
-ghost use Rattle.ibos_script.specs.Faults.{Gives, Tells};
+ghost use Rattle.ibos_script.specs.Faults.{Gives, GivesInto, Makes};
 ghost use Rattle.ibos_script.specs.Lines.{LineFits, line_in, act_in, user_in, page_in, net_in};
 ghost use Rattle.ibos_script.specs.Lines.{cookie_in, flow_in, dev_in, bell_in, wire_in, store_in};
 ghost use Rattle.ibos_script.specs.Lines as spec;
@@ -60,10 +60,24 @@ pub enum Line {
 /// and VALUE are `0x` and one to eight hexadecimal digits. K is `enter`, `back` or a printable byte
 /// in hexadecimal, HEX any number of bytes in hexadecimal, `-` for none. KEY and ORIGIN are one
 /// word; URL and TEXT take what is left of the line.
-#[tactic(auto, unfolding(crate::specs::Lines::line_in))]
 pub fn read_line(alloc: Global, line: &[u8]) -> Result<Option<Line>, LineFault>
     ensures line { Gives result (line_in line.now) }
     ensures fits { IfOk result (λ line. IfSome line LineFits) }
+{
+    let mut made = Line::NextFrame;
+    if read_line_into(alloc, line, &mut made)? {
+        Ok(Some(made))
+    } else {
+        Ok(None)
+    }
+}
+
+/// The same, but what the line gives takes the place of what the caller has in `made`, and the answer
+/// is whether it gives something: an act is large, and a call that answers it copies it.
+#[tactic(auto, unfolding(crate::specs::Lines::line_in))]
+pub fn read_line_into(alloc: Global, line: &[u8], made: &mut Line) -> Result<bool, LineFault>
+    ensures line { GivesInto result made.new (line_in line.now) }
+    ensures fits { IfOk result (λ gives. gives ≡ true → LineFits made.new) }
 {
     if line.len() > MAX_LINE {
         return Err(LineFault::Long);
@@ -72,12 +86,13 @@ pub fn read_line(alloc: Global, line: &[u8]) -> Result<Option<Line>, LineFault>
         return Err(LineFault::Byte);
     }
     if is_comment(line) {
-        return Ok(None);
+        return Ok(false);
     }
     let Some((actor, rest)) = next_word(line) else {
-        return Ok(None);
+        return Ok(false);
     };
-    read_act(alloc, actor, rest)
+    read_act(alloc, actor, rest, made)?;
+    Ok(true)
 }
 
 fn is_comment(line: &[u8]) -> bool
@@ -87,127 +102,127 @@ fn is_comment(line: &[u8]) -> bool
 }
 
 #[tactic(auto, unfolding(crate::specs::Lines::act_in))]
-fn read_act(alloc: Global, actor: &[u8], line: &[u8]) -> Result<Option<Line>, LineFault>
-    ensures line { Tells result (act_in actor.now line.now) }
-    ensures fits { IfOk result (λ line. IfSome line LineFits) }
+fn read_act(alloc: Global, actor: &[u8], line: &[u8], made: &mut Line) -> Result<(), LineFault>
+    ensures line { Makes result made.new (act_in actor.now line.now) }
+    ensures fits { OnOk result (LineFits made.new) }
 {
     let (second, line) = split_word(line);
     if actor == b"user".as_slice() {
-        return read_user(alloc, second, line);
+        return read_user(alloc, second, line, made);
     }
     if actor == b"dev".as_slice() {
-        return read_dev(second, line);
+        return read_dev(second, line, made);
     }
     if actor == b"wire".as_slice() {
-        return read_wire(alloc, second, line);
+        return read_wire(alloc, second, line, made);
     }
     if actor == b"store".as_slice() {
-        return read_store(alloc, second, line);
+        return read_store(alloc, second, line, made);
     }
     let (third, line) = split_word(line);
     if actor == b"page".as_slice() {
-        return read_page(alloc, second, third, line);
+        return read_page(alloc, second, third, line, made);
     }
     if actor == b"net".as_slice() {
-        return read_net(alloc, second, third, line);
+        return read_net(alloc, second, third, line, made);
     }
     Err(LineFault::Word)
 }
 
 #[tactic(auto, unfolding(crate::specs::Lines::user_in))]
-fn read_user(alloc: Global, command: &[u8], line: &[u8]) -> Result<Option<Line>, LineFault>
-    ensures line { Tells result (user_in command.now line.now) }
-    ensures fits { IfOk result (λ line. IfSome line LineFits) }
+fn read_user(alloc: Global, command: &[u8], line: &[u8], made: &mut Line) -> Result<(), LineFault>
+    ensures line { Makes result made.new (user_in command.now line.now) }
+    ensures fits { OnOk result (LineFits made.new) }
 {
     if command == b"open".as_slice() {
-        return read_open(alloc, line);
+        return read_open(alloc, line, made);
     }
     if command == b"switch".as_slice() {
-        return read_switch(line);
+        return read_switch(line, made);
     }
     if command == b"close".as_slice() {
-        return read_close(line);
+        return read_close(line, made);
     }
     if command == b"key".as_slice() {
-        return read_press(line);
+        return read_press(line, made);
     }
     if command == b"click".as_slice() {
-        return read_click(line);
+        return read_click(line, made);
     }
     if command == b"look".as_slice() {
-        return read_look(line);
+        return read_look(line, made);
     }
     Err(LineFault::Word)
 }
 
 #[tactic(auto, unfolding(crate::specs::Lines::dev_in))]
-fn read_dev(command: &[u8], line: &[u8]) -> Result<Option<Line>, LineFault>
-    ensures line { Tells result (dev_in command.now line.now) }
-    ensures fits { IfOk result (λ line. IfSome line LineFits) }
+fn read_dev(command: &[u8], line: &[u8], made: &mut Line) -> Result<(), LineFault>
+    ensures line { Makes result made.new (dev_in command.now line.now) }
+    ensures fits { OnOk result (LineFits made.new) }
 {
     if command == b"read".as_slice() {
-        return read_register_read(line);
+        return read_register_read(line, made);
     }
     if command == b"write".as_slice() {
-        return read_register_write(line);
+        return read_register_write(line, made);
     }
     if command == b"rx".as_slice() {
-        return read_receive_post(line);
+        return read_receive_post(line, made);
     }
     if command == b"tx".as_slice() {
-        return read_transmit_post(line);
+        return read_transmit_post(line, made);
     }
     if command == b"bell".as_slice() {
         let (ring, line) = split_word(line);
-        return read_bell(ring, line);
+        return read_bell(ring, line, made);
     }
     Err(LineFault::Word)
 }
 
 #[tactic(auto, unfolding(crate::specs::Lines::bell_in))]
-fn read_bell(ring: &[u8], line: &[u8]) -> Result<Option<Line>, LineFault>
-    ensures line { Tells result (bell_in ring.now line.now) }
-    ensures fits { IfOk result (λ line. IfSome line LineFits) }
+fn read_bell(ring: &[u8], line: &[u8], made: &mut Line) -> Result<(), LineFault>
+    ensures line { Makes result made.new (bell_in ring.now line.now) }
+    ensures fits { OnOk result (LineFits made.new) }
 {
     if ring == b"rx".as_slice() {
-        return read_receive_bell(line);
+        return read_receive_bell(line, made);
     }
     if ring == b"tx".as_slice() {
-        return read_transmit_bell(line);
+        return read_transmit_bell(line, made);
     }
     Err(LineFault::Word)
 }
 
 #[tactic(auto, unfolding(crate::specs::Lines::wire_in))]
-fn read_wire(alloc: Global, command: &[u8], line: &[u8]) -> Result<Option<Line>, LineFault>
-    ensures line { Tells result (wire_in command.now line.now) }
-    ensures fits { IfOk result (λ line. IfSome line LineFits) }
+fn read_wire(alloc: Global, command: &[u8], line: &[u8], made: &mut Line) -> Result<(), LineFault>
+    ensures line { Makes result made.new (wire_in command.now line.now) }
+    ensures fits { OnOk result (LineFits made.new) }
 {
     if command == b"in".as_slice() {
-        return read_wire_frame(alloc, line);
+        return read_wire_frame(alloc, line, made);
     }
     if command == b"next".as_slice() {
-        return read_next_frame(line);
+        return read_next_frame(line, made);
     }
     if command == b"out".as_slice() {
-        return read_wire_room(line);
+        return read_wire_room(line, made);
     }
     Err(LineFault::Word)
 }
 
 #[tactic(auto, unfolding(crate::specs::Lines::store_in))]
-fn read_store(alloc: Global, command: &[u8], line: &[u8]) -> Result<Option<Line>, LineFault>
-    ensures line { Tells result (store_in command.now line.now) }
-    ensures fits { IfOk result (λ line. IfSome line LineFits) }
+fn read_store(alloc: Global, command: &[u8], line: &[u8], made: &mut Line) -> Result<(), LineFault>
+    ensures line { Makes result made.new (store_in command.now line.now) }
+    ensures fits { OnOk result (LineFits made.new) }
 {
     if command == b"answer".as_slice() {
-        return read_store_answer(alloc, line);
+        return read_store_answer(alloc, line, made);
     }
     if command == b"none".as_slice() {
-        return read_store_none(line);
+        return read_store_none(line, made);
     }
     if command == b"lose".as_slice() {
-        return read_store_lose(alloc, line);
+        return read_store_lose(alloc, line, made);
     }
     Err(LineFault::Word)
 }
@@ -218,25 +233,26 @@ fn read_page(
     who: &[u8],
     command: &[u8],
     line: &[u8],
-) -> Result<Option<Line>, LineFault>
-    ensures line { Tells result (page_in who.now command.now line.now) }
-    ensures fits { IfOk result (λ line. IfSome line LineFits) }
+    made: &mut Line,
+) -> Result<(), LineFault>
+    ensures line { Makes result made.new (page_in who.now command.now line.now) }
+    ensures fits { OnOk result (LineFits made.new) }
 {
     if command == b"go".as_slice() {
-        return read_go(alloc, who, line);
+        return read_go(alloc, who, line, made);
     }
     if command == b"draw".as_slice() {
-        return read_draw(alloc, who, line);
+        return read_draw(alloc, who, line, made);
     }
     if command == b"cookie".as_slice() {
         let (command, line) = split_word(line);
-        return read_cookie(alloc, Side::Page, who, command, line);
+        return read_cookie(alloc, Side::Page, who, command, line, made);
     }
     if command == b"put".as_slice() {
-        return read_put(alloc, who, line);
+        return read_put(alloc, who, line, made);
     }
     if command == b"ask".as_slice() {
-        return read_ask(alloc, who, line);
+        return read_ask(alloc, who, line, made);
     }
     Err(LineFault::Word)
 }
@@ -247,43 +263,44 @@ fn read_net(
     who: &[u8],
     command: &[u8],
     line: &[u8],
-) -> Result<Option<Line>, LineFault>
-    ensures line { Tells result (net_in who.now command.now line.now) }
-    ensures fits { IfOk result (λ line. IfSome line LineFits) }
+    made: &mut Line,
+) -> Result<(), LineFault>
+    ensures line { Makes result made.new (net_in who.now command.now line.now) }
+    ensures fits { OnOk result (LineFits made.new) }
 {
     if command == b"flow".as_slice() {
         let (proto, line) = split_word(line);
-        return read_flow(who, proto, line);
+        return read_flow(who, proto, line, made);
     }
     if command == b"close".as_slice() {
-        return read_unbind(who, line);
+        return read_unbind(who, line, made);
     }
     if command == b"done".as_slice() {
-        return read_done(who, line);
+        return read_done(who, line, made);
     }
     if command == b"cookie".as_slice() {
         let (command, line) = split_word(line);
-        return read_cookie(alloc, Side::Net, who, command, line);
+        return read_cookie(alloc, Side::Net, who, command, line, made);
     }
     if command == b"fill".as_slice() {
-        return read_fill(alloc, who, line);
+        return read_fill(alloc, who, line, made);
     }
     if command == b"submit".as_slice() {
-        return read_submit(who, line);
+        return read_submit(who, line, made);
     }
     Err(LineFault::Word)
 }
 
 #[tactic(auto, unfolding(crate::specs::Lines::flow_in))]
-fn read_flow(who: &[u8], proto: &[u8], line: &[u8]) -> Result<Option<Line>, LineFault>
-    ensures line { Tells result (flow_in who.now proto.now line.now) }
-    ensures fits { IfOk result (λ line. IfSome line LineFits) }
+fn read_flow(who: &[u8], proto: &[u8], line: &[u8], made: &mut Line) -> Result<(), LineFault>
+    ensures line { Makes result made.new (flow_in who.now proto.now line.now) }
+    ensures fits { OnOk result (LineFits made.new) }
 {
     if proto == b"tcp".as_slice() {
-        return read_bind(Proto::Tcp, who, line);
+        return read_bind(Proto::Tcp, who, line, made);
     }
     if proto == b"udp".as_slice() {
-        return read_bind(Proto::Udp, who, line);
+        return read_bind(Proto::Udp, who, line, made);
     }
     Err(LineFault::Word)
 }
@@ -295,15 +312,16 @@ fn read_cookie(
     who: &[u8],
     command: &[u8],
     line: &[u8],
-) -> Result<Option<Line>, LineFault>
-    ensures line { Tells result (cookie_in side who.now command.now line.now) }
-    ensures fits { IfOk result (λ line. IfSome line LineFits) }
+    made: &mut Line,
+) -> Result<(), LineFault>
+    ensures line { Makes result made.new (cookie_in side who.now command.now line.now) }
+    ensures fits { OnOk result (LineFits made.new) }
 {
     if command == b"set".as_slice() {
-        return read_cookie_set(alloc, side, who, line);
+        return read_cookie_set(alloc, side, who, line, made);
     }
     if command == b"get".as_slice() {
-        return read_cookie_get(side, who, line);
+        return read_cookie_get(side, who, line, made);
     }
     Err(LineFault::Word)
 }
