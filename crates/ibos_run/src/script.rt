@@ -1,11 +1,11 @@
 // The lines of a script, and how it ends.
 ghost use Rattle.std.specs.Prelude.{◌≡◌, ◌≢◌, ◌≤◌, ◌<◌, ◌+◌, ◌^◌, List, ℕ, true, IfOk, IfErr};
-ghost use Rattle.std.specs.Prelude.{IfSome, OnErr, OnOk};
+ghost use Rattle.std.specs.Prelude.{IfSome, Ok, OnErr, OnOk, Some};
 ghost use Rattle.ibos_kinds.specs.Limits.{Fits};
 ghost use Rattle.ibos_kinds.specs.Outside.{Rose};
 ghost use Rattle.ibos_kernel.specs.Standing.{Agrees, AreTogether, Stands};
 ghost use Rattle.ibos_model.specs.Journal.{Journal};
-ghost use Rattle.ibos_script.specs.Lines.{line_in};
+ghost use Rattle.ibos_script.specs.Lines.{LineFits, line_in};
 ghost use Rattle.ibos_run.specs.Faults.{IsCaused};
 ghost use Rattle.ibos_run.specs.Readings.{Reading, reading_by, reading_next};
 ghost use Rattle.ibos_run.specs.Script.{IsOfScript, behind_end};
@@ -21,7 +21,7 @@ use ibos_model::{
     texts_are_fronts,
 };
 use ibos_nic::Nic;
-use ibos_script::{Line, LineFault, read_line, write_outcome};
+use ibos_script::{Line, LineFault, read_line_into, write_outcome};
 use std::alloc::Global;
 
 /// How a script ends: at its end, or at its first fault. Lines are counted from 1.
@@ -37,12 +37,14 @@ pub enum End {
 }
 
 /// Makes the act that a line of that number asks for, if any, with the frames that are left, or
-/// tells that the script ends there. `outcome` is room for what comes of the act.
+/// tells that the script ends there. `made` is room for the line as it was read, and `outcome` for
+/// what comes of the act.
 pub fn serve_line<N: Nic, K: Sink>(
     alloc: Global,
     kernel: &mut Kernel,
     number: u32,
     line: &[u8],
+    made: &mut Line,
     frames: &mut Frames<'_>,
     outcome: &mut Outcome,
     nic: &mut N,
@@ -70,24 +72,66 @@ pub fn serve_line<N: Nic, K: Sink>(
         IsCaused fault ⊥ (Rose (K.faults sink.old) (K.faults sink.new))) }
 {
     // Called for the laws that are their clauses.
+    texts_are_fronts();
+    frames_are_fronts();
+    sent_frames_are_fronts();
+    match read_line_into(alloc, line, made) {
+        Ok(true) => serve_made(
+            alloc, kernel, number, made, frames, outcome, nic, text, sink,
+        ),
+        Ok(false) => Ok(None),
+        Err(fault) => {
+            let end = end_at(number, fault)?;
+            Ok(Some(end))
+        }
+    }
+}
+
+// Makes what a line gave that was read.
+fn serve_made<N: Nic, K: Sink>(
+    alloc: Global,
+    kernel: &mut Kernel,
+    number: u32,
+    made: &Line,
+    frames: &mut Frames<'_>,
+    outcome: &mut Outcome,
+    nic: &mut N,
+    text: &mut Bytes,
+    sink: &mut K,
+) -> Result<Option<End>, Fault>
+    requires usable { kernel.old.usable ≡ true }
+    requires fits { LineFits made.now }
+    requires acts { kernel.old.acts < 2 ^ 31 }
+    requires device { AreTogether kernel.old (N.regs nic.old) (N.log nic.old) }
+    ensures served { IfOk result (λ end. (behind : List (List ℕ) → Reading) → Serves
+        (reading_by number (Ok (Some made.now)) frames.old behind)
+        (behind_end end (behind frames.new))
+        (K.taken sink.old) (K.taken sink.new) text.old text.new kernel.old kernel.new
+        (N.regs nic.old) (N.regs nic.new) (N.log nic.old) (N.log nic.new)) }
+    ensures stopped { OnErr result ((behind : List (List ℕ) → Reading) → Stops
+        (reading_by number (Ok (Some made.now)) frames.old behind)
+        (K.taken sink.old) (K.taken sink.new) text.old text.new kernel.old
+        (N.regs nic.old) (N.log nic.old) (N.log nic.new)) }
+    ensures of_script { IfOk result (λ end. IfSome end IsOfScript) }
+    ensures device { OnOk result (AreTogether kernel.new (N.regs nic.new) (N.log nic.new)) }
+    ensures usable { OnOk result (kernel.new.usable ≡ true) }
+    ensures acts { OnOk result (kernel.new.acts ≤ kernel.old.acts + 1) }
+    ensures later { K.faults sink.old ≤ K.faults sink.new }
+    ensures cause { IfErr result (λ fault.
+        IsCaused fault ⊥ (Rose (K.faults sink.old) (K.faults sink.new))) }
+{
+    // Called for the laws that are their clauses.
     runs_go_on();
     texts_are_fronts();
     frames_are_fronts();
     sent_frames_are_fronts();
     frames_are_sent_in_turn();
-    match &read_line(alloc, line) {
-        Ok(None) => Ok(None),
-        Ok(Some(Line::Act(act))) => {
+    match made {
+        Line::Act(act) => {
             make_act(alloc, kernel, act, outcome, nic, text, sink)?;
             Ok(None)
         }
-        Ok(Some(Line::NextFrame)) => {
-            serve_frame(alloc, kernel, number, frames, outcome, nic, text, sink)
-        }
-        Err(fault) => {
-            let end = end_at(number, *fault)?;
-            Ok(Some(end))
-        }
+        Line::NextFrame => serve_frame(alloc, kernel, number, frames, outcome, nic, text, sink),
     }
 }
 

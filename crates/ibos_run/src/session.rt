@@ -21,6 +21,7 @@ use ibos_kinds::{Bytes, Cabinet, Memory, Outcome, Sink};
 use ibos_model::{frames_are_fronts, sent_frames_are_fronts, texts_are_fronts};
 use ibos_nic::Nic;
 use ibos_origin::Hosts;
+use ibos_script::Line;
 use std::alloc::Global;
 
 /// Runs the script of that name with the frames of a capture, over a host table and a device at
@@ -138,6 +139,7 @@ fn make_acts<C: Cabinet, N: Nic, K: Sink>(
     sent_frames_are_fronts();
     let mut source = Source::new(alloc)?;
     let mut frames = frames;
+    let mut made = Line::NextFrame;
     let mut outcome = Outcome::new(alloc);
     let mut lines = 0;
     'lines: while let Some(len) = source.find_line(cabinet, name)? {
@@ -151,6 +153,7 @@ fn make_acts<C: Cabinet, N: Nic, K: Sink>(
             kernel,
             lines,
             line,
+            &mut made,
             &mut frames,
             &mut outcome,
             nic,
