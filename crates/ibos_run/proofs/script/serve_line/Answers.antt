@@ -1,4 +1,4 @@
-use Rattle.std.proofs.Common.{rules, ◌≡◌, ◌≢◌, ◌∙◌, refl, List, ℕ, Bool, ap, sym, true, false, Some, None, Ok, Err, Option, Result, subst, arith}
+use Rattle.std.proofs.Common.{rules, ◌≡◌, ◌≢◌, ◌∙◌, refl, List, ℕ, Bool, ap, sym, Some, None, Ok, Err, Option, Result, subst, arith}
 use Rattle.std.specs.Prelude.{IfOk, OnErr}
 use Rattle.ibos_script.specs.declared.fault.LineFault.{LineFault}
 use Rattle.ibos_script.specs.declared.fault.LineFault.TheVariants.{Long, Byte, Word, Count, Number, Hex, Memory}

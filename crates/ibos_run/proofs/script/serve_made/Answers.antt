@@ -1,6 +1,5 @@
-use Rattle.std.proofs.Common.{◌≡◌, List, ℕ, ap, sym, Some, Ok, Option, Result, subst}
+use Rattle.std.proofs.Common.{List, ℕ, ap, sym, Some, Ok, subst}
 use Rattle.std.specs.Prelude.{IfOk, OnErr}
-use Rattle.ibos_script.specs.declared.fault.LineFault.{LineFault}
 use Rattle.ibos_script.specs.declared.lines.Line.{Line}
 use Rattle.ibos_run.specs.Readings.{Reading, reading_by}
 use Rattle.ibos_run.specs.Script.{behind_end}
