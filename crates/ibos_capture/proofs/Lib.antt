@@ -1,5 +1,6 @@
-mod EntriesRead
 mod Numbers
+mod Fronts
+mod EntriesRead
 mod Layouts
 mod Headers
 mod WholeGrammar

@@ -1,7 +1,8 @@
 // The header of a capture, and that of an entry.
-ghost use Rattle.std.specs.Prelude.{◌≡◌, ◌≤◌, ◌+◌, length, IfOk};
-ghost use Rattle.ibos_capture.specs.Captures.{is_magic, endian_of, header_in, captured_len};
+ghost use Rattle.std.specs.Prelude.{◌≡◌, ◌≤◌, length, IfOk};
+ghost use Rattle.ibos_capture.specs.Captures.{is_magic, endian_of, header_in};
 ghost use Rattle.ibos_capture.specs.Captures.{is_version, is_ethernet};
+ghost use Rattle.ibos_capture.specs.Progress.{said_len};
 
 use crate::fault::CapFault;
 use crate::fields::Endian;
@@ -33,7 +34,8 @@ pub const ENTRY_HEADER_LEN: usize = 16;
 
 const MAGIC_NUMBER_LEN: usize = 4;
 
-const MAX_CAPTURE: usize = 67_108_864;
+/// The most that a capture may have, in bytes.
+pub const MAX_CAPTURE: usize = 67_108_864;
 
 const MAX_CAPTURED: u32 = 262_144;
 
@@ -51,13 +53,10 @@ const ETHERNET: u32 = 1;
 // The byte order of all fields, where the header has no fault.
 #[tactic(auto, unfolding(crate::specs::Captures::header_in))]
 pub fn read_header(bytes: &[u8]) -> Result<Endian, CapFault>
+    requires { length bytes.now ≤ MAX_CAPTURE }
     ensures exact { result ≡ header_in bytes.now }
     ensures header { IfOk result (λ _. 24 ≤ length bytes.now) }
-    ensures limit { IfOk result (λ _. length bytes.now ≤ 67108864) }
 {
-    if bytes.len() > MAX_CAPTURE {
-        return Err(CapFault::TooLong);
-    }
     let Some(endian) = endian_of(bytes) else {
         return Err(CapFault::Magic);
     };
@@ -111,21 +110,18 @@ fn is_ethernet(endian: Endian, bytes: &[u8]) -> bool
     endian.u32_at(bytes, field::LINK_TYPE) == ETHERNET
 }
 
-// The number of captured bytes of the entry with which the bytes begin, where it has no fault.
-#[tactic(auto, unfolding(crate::specs::Captures::captured_len))]
-pub fn captured_len(endian: Endian, rest: &[u8]) -> Result<u32, CapFault>
-    ensures exact { result ≡ captured_len endian rest.now }
-    ensures whole { IfOk result (λ len. 16 + len ≤ length rest.now) }
+// The number of captured bytes that an entry's header says, where it has no fault.
+#[tactic(auto, unfolding(crate::specs::Progress::said_len))]
+pub fn said_len(endian: Endian, header: &[u8]) -> Result<u32, CapFault>
+    ensures exact { result ≡ said_len endian header.now }
+    ensures fits { IfOk result (λ len. len ≤ 262144) }
 {
-    if rest.len() < ENTRY_HEADER_LEN {
+    if header.len() < ENTRY_HEADER_LEN {
         return Err(CapFault::Cut);
     }
-    let len = endian.u32_at(rest, entry_field::CAPTURED_LENGTH);
+    let len = endian.u32_at(header, entry_field::CAPTURED_LENGTH);
     if len > MAX_CAPTURED {
         return Err(CapFault::Long);
-    }
-    if rest.len() - ENTRY_HEADER_LEN < len as usize {
-        return Err(CapFault::Cut);
     }
     Ok(len)
 }

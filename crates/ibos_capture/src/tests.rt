@@ -1,5 +1,5 @@
 // Captures of two entries, in each byte order.
-use crate::{CapFault, CaptureFault, Index, captures_law};
+use crate::{CapFault, CaptureFault, Index, IndexReader, captures_law};
 use std::alloc::Global;
 use std::test::Fail;
 
@@ -39,5 +39,27 @@ fn captures_are_read_in_either_byte_order(rt: HostRuntime) -> Result<(), Fail> {
     }
     assert_eq!(rt; fault_of(rt.alloc(), &BIG[..24]), None);
     captures_law();
+    Ok(())
+}
+
+#[test]
+fn headers_alone_give_the_index(rt: HostRuntime) -> Result<(), Fail> {
+    for bytes in [BIG, LITTLE] {
+        let mut reader = IndexReader::begin(rt.alloc(), &bytes[..24])?;
+        assert_eq!(rt; reader.next_len(&bytes[24..40]), Ok(3));
+        reader.push(3)?;
+        assert_eq!(rt; reader.place(), 43);
+        let cut = CaptureFault::At {
+            entry: 2,
+            fault: CapFault::Cut,
+        };
+        assert_eq!(rt; reader.next_len(&bytes[43..50]), Err(cut));
+        assert_eq!(rt; reader.cut(), cut);
+        assert_eq!(rt; reader.next_len(&bytes[43..59]), Ok(2));
+        reader.push(2)?;
+        let index = reader.finish();
+        assert_eq!(rt; index.len(), 2);
+        assert_eq!(rt; index.frame(1), (59, 2));
+    }
     Ok(())
 }
