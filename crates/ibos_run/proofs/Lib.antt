@@ -7,6 +7,7 @@ pub mod Sessions
 pub mod Served
 pub mod Scripts
 pub mod Drills
+pub mod Shown
 pub mod Captures
 pub mod Files
 pub mod Causes

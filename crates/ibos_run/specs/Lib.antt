@@ -3,6 +3,7 @@ pub mod Refusals
 pub mod Readings
 pub mod Summaries
 pub mod Inputs
+pub mod Captured
 pub mod Took
 pub mod Sources
 pub mod Device

@@ -1,5 +1,5 @@
 -- How a script ends.
-use Rattle.std.specs.Prelude.{◌≢◌, ℕ, List, [], Option, Some, None}
+use Rattle.std.specs.Prelude.{◌≢◌, [], Option, Some, None}
 use Rattle.ibos_script.specs.declared.fault.LineFault.TheVariants.{Memory}
 use Rattle.ibos_run.specs.Readings.{Reading}
 use Rattle.ibos_run.specs.Refusals.{Refusal, line_refusal, no_frame, too_long}
@@ -26,8 +26,3 @@ ended_by end = record { acts = []; refused = refusal_of end }
 abbrev pub behind_end : Option End → Reading → Reading
 behind_end None left = left
 behind_end (Some end) left = ended_by end
-
--- the frames of a capture, if one is named
-abbrev pub frames_of : Option (List (List ℕ)) → List (List ℕ)
-frames_of None = []
-frames_of (Some frames) = frames

@@ -13,6 +13,7 @@ mod source;
 mod tally;
 mod texts;
 mod transfer;
+mod window;
 
 pub use fault::Status;
 pub use run_words::run;

@@ -18,7 +18,7 @@ ghost use Rattle.ibos_run.specs.Session.{IsBroken, IsTold};
 ghost use Rattle.ibos_run.specs.Took.{Took, TookFront};
 ghost use Rattle.ibos_run.specs.Words.{Files, files_of, form_in, three_words, with_capture};
 
-use crate::capture::{Capture, Frames};
+use crate::capture::Capture;
 use crate::drill::run_drill;
 use crate::fault::{Fault, Status};
 use crate::gather::{hand_over, make_room};
@@ -48,9 +48,10 @@ const MAX_HOSTS_LEN: usize = 4_194_304;
 /// same way, and writes one line that counts them. Any other words are answered with the usage
 /// line, for which no memory is taken.
 ///
-/// The script is read line by line while it is run, so acts may have been made before a read of it
-/// fails. The device is at reset, and is asked for nothing until the other files are read. In the
-/// clauses W is what it wrote for the frames that came in, by its log at the end.
+/// Of the capture all headers are read first, and each frame when a line wants it; the script is
+/// read line by line while it is run. So acts may have been made before a read of either fails. The
+/// device is at reset, and is asked for nothing until the host table and those headers are read. In
+/// the clauses W is what it wrote for the frames that came in, by its log at the end.
 ///
 /// # Examples
 ///
@@ -401,21 +402,13 @@ fn gather_capture<C: Cabinet, N: Nic, K: Sink>(
         (Rose (K.faults sink.old) (K.faults sink.new))) }
 {
     let Some(name) = capture else {
-        return run_session(
-            alloc,
-            hosts,
-            script,
-            Frames::new(None),
-            cabinet,
-            nic,
-            text,
-            sink,
-        );
+        let mut none = None;
+        return run_session(alloc, hosts, script, &mut none, cabinet, nic, text, sink);
     };
     match Capture::read(alloc, cabinet, name)? {
         Ok(capture) => {
-            let frames = Frames::new(Some(&capture));
-            run_session(alloc, hosts, script, frames, cabinet, nic, text, sink)
+            let mut capture = Some(capture);
+            run_session(alloc, hosts, script, &mut capture, cabinet, nic, text, sink)
         }
         Err(CaptureFault::At { entry, fault }) => {
             let status = refuse_capture(alloc, entry, fault, text, sink)?;

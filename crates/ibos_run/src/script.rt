@@ -1,21 +1,22 @@
 // The lines of a script, and how it ends.
 ghost use Rattle.std.specs.Prelude.{◌≡◌, ◌≢◌, ◌≤◌, ◌<◌, ◌+◌, ◌^◌, List, ℕ, true, IfOk, IfErr};
-ghost use Rattle.std.specs.Prelude.{IfSome, Ok, OnErr, OnOk, Some};
+ghost use Rattle.std.specs.Prelude.{IfSome, IsSomeAnd, Ok, OnErr, OnOk, Some};
 ghost use Rattle.ibos_kinds.specs.Limits.{Fits};
 ghost use Rattle.ibos_kinds.specs.Outside.{Rose};
 ghost use Rattle.ibos_kernel.specs.Standing.{Agrees, AreTogether, Stands};
 ghost use Rattle.ibos_model.specs.Journal.{Journal};
 ghost use Rattle.ibos_script.specs.Lines.{LineFits, line_in};
+ghost use Rattle.ibos_run.specs.Captured.{IsHeld, frames_left, named};
 ghost use Rattle.ibos_run.specs.Faults.{IsCaused};
 ghost use Rattle.ibos_run.specs.Readings.{Reading, reading_by, reading_next};
 ghost use Rattle.ibos_run.specs.Script.{IsOfScript, behind_end};
 ghost use Rattle.ibos_run.specs.Session.{IsCut, IsMade, Serves, Stops};
 
-use crate::capture::Frames;
+use crate::capture::{Capture, next_frame};
 use crate::fault::Fault;
 use crate::gather::hand_over_if_much;
 use ibos_kernel::Kernel;
-use ibos_kinds::{Act, Bytes, Memory, Outcome, Sink};
+use ibos_kinds::{Act, Bytes, Cabinet, Memory, Outcome, Sink};
 use ibos_model::{
     frames_are_fronts, frames_are_sent_in_turn, runs_go_on, sent_frames_are_fronts,
     texts_are_fronts,
@@ -36,16 +37,17 @@ pub enum End {
     Refused { line: u32, fault: LineFault },
 }
 
-/// Makes the act that a line of that number asks for, if any, with the frames that are left, or
-/// tells that the script ends there. `made` is room for the line as it was read, and `outcome` for
-/// what comes of the act.
-pub fn serve_line<N: Nic, K: Sink>(
+/// Makes the act that a line of that number asks for, if any, with the frames that are left of the
+/// capture, or tells that the script ends there. `made` is room for the line as it was read, and
+/// `outcome` for what comes of the act.
+pub fn serve_line<C: Cabinet, N: Nic, K: Sink>(
     alloc: Global,
     kernel: &mut Kernel,
     number: u32,
     line: &[u8],
     made: &mut Line,
-    frames: &mut Frames<'_>,
+    capture: &mut Option<Capture<'_>>,
+    cabinet: &mut C,
     outcome: &mut Outcome,
     nic: &mut N,
     text: &mut Bytes,
@@ -54,22 +56,33 @@ pub fn serve_line<N: Nic, K: Sink>(
     requires usable { kernel.old.usable ≡ true }
     requires acts { kernel.old.acts < 2 ^ 31 }
     requires device { AreTogether kernel.old (N.regs nic.old) (N.log nic.old) }
-    ensures served { IfOk result (λ end. (behind : List (List ℕ) → Reading) → Serves
-        (reading_by number (line_in line.now) frames.old behind)
-        (behind_end end (behind frames.new))
+    ensures served { IfOk result (λ end. (file : List ℕ)
+        → IsHeld (C.holds cabinet.old) file capture.old
+        → (behind : List (List ℕ) → Reading) → Serves
+        (reading_by number (line_in line.now) (frames_left file capture.old) behind)
+        (behind_end end (behind (frames_left file capture.new)))
         (K.taken sink.old) (K.taken sink.new) text.old text.new kernel.old kernel.new
         (N.regs nic.old) (N.regs nic.new) (N.log nic.old) (N.log nic.new)) }
-    ensures stopped { OnErr result ((behind : List (List ℕ) → Reading) → Stops
-        (reading_by number (line_in line.now) frames.old behind)
+    ensures stopped { OnErr result ((file : List ℕ)
+        → IsHeld (C.holds cabinet.old) file capture.old
+        → (behind : List (List ℕ) → Reading) → Stops
+        (reading_by number (line_in line.now) (frames_left file capture.old) behind)
         (K.taken sink.old) (K.taken sink.new) text.old text.new kernel.old
         (N.regs nic.old) (N.log nic.old) (N.log nic.new)) }
+    ensures held { OnOk result ((file : List ℕ) → IsHeld (C.holds cabinet.old) file capture.old
+        → IsHeld (C.holds cabinet.old) file capture.new) }
+    ensures name { named capture.new ≡ named capture.old }
     ensures of_script { IfOk result (λ end. IfSome end IsOfScript) }
     ensures device { OnOk result (AreTogether kernel.new (N.regs nic.new) (N.log nic.new)) }
     ensures usable { OnOk result (kernel.new.usable ≡ true) }
     ensures acts { OnOk result (kernel.new.acts ≤ kernel.old.acts + 1) }
+    ensures holds { (name : List ℕ) → C.holds cabinet.new name ≡ C.holds cabinet.old name }
+    ensures files_later { (name : List ℕ) → C.faults cabinet.old name ≤ C.faults cabinet.new name }
     ensures later { K.faults sink.old ≤ K.faults sink.new }
-    ensures cause { IfErr result (λ fault.
-        IsCaused fault ⊥ (Rose (K.faults sink.old) (K.faults sink.new))) }
+    ensures cause { IfErr result (λ fault. IsCaused fault
+        (IsSomeAnd (named capture.old) (λ name.
+        Rose (C.faults cabinet.old name) (C.faults cabinet.new name)))
+        (Rose (K.faults sink.old) (K.faults sink.new))) }
 {
     // Called for the laws that are their clauses.
     texts_are_fronts();
@@ -77,7 +90,7 @@ pub fn serve_line<N: Nic, K: Sink>(
     sent_frames_are_fronts();
     match read_line_into(alloc, line, made) {
         Ok(true) => serve_made(
-            alloc, kernel, number, made, frames, outcome, nic, text, sink,
+            alloc, kernel, number, made, capture, cabinet, outcome, nic, text, sink,
         ),
         Ok(false) => Ok(None),
         Err(fault) => {
@@ -88,12 +101,13 @@ pub fn serve_line<N: Nic, K: Sink>(
 }
 
 // Makes what a line gave that was read.
-fn serve_made<N: Nic, K: Sink>(
+fn serve_made<C: Cabinet, N: Nic, K: Sink>(
     alloc: Global,
     kernel: &mut Kernel,
     number: u32,
     made: &Line,
-    frames: &mut Frames<'_>,
+    capture: &mut Option<Capture<'_>>,
+    cabinet: &mut C,
     outcome: &mut Outcome,
     nic: &mut N,
     text: &mut Bytes,
@@ -103,22 +117,33 @@ fn serve_made<N: Nic, K: Sink>(
     requires fits { LineFits made.now }
     requires acts { kernel.old.acts < 2 ^ 31 }
     requires device { AreTogether kernel.old (N.regs nic.old) (N.log nic.old) }
-    ensures served { IfOk result (λ end. (behind : List (List ℕ) → Reading) → Serves
-        (reading_by number (Ok (Some made.now)) frames.old behind)
-        (behind_end end (behind frames.new))
+    ensures served { IfOk result (λ end. (file : List ℕ)
+        → IsHeld (C.holds cabinet.old) file capture.old
+        → (behind : List (List ℕ) → Reading) → Serves
+        (reading_by number (Ok (Some made.now)) (frames_left file capture.old) behind)
+        (behind_end end (behind (frames_left file capture.new)))
         (K.taken sink.old) (K.taken sink.new) text.old text.new kernel.old kernel.new
         (N.regs nic.old) (N.regs nic.new) (N.log nic.old) (N.log nic.new)) }
-    ensures stopped { OnErr result ((behind : List (List ℕ) → Reading) → Stops
-        (reading_by number (Ok (Some made.now)) frames.old behind)
+    ensures stopped { OnErr result ((file : List ℕ)
+        → IsHeld (C.holds cabinet.old) file capture.old
+        → (behind : List (List ℕ) → Reading) → Stops
+        (reading_by number (Ok (Some made.now)) (frames_left file capture.old) behind)
         (K.taken sink.old) (K.taken sink.new) text.old text.new kernel.old
         (N.regs nic.old) (N.log nic.old) (N.log nic.new)) }
+    ensures held { OnOk result ((file : List ℕ) → IsHeld (C.holds cabinet.old) file capture.old
+        → IsHeld (C.holds cabinet.old) file capture.new) }
+    ensures name { named capture.new ≡ named capture.old }
     ensures of_script { IfOk result (λ end. IfSome end IsOfScript) }
     ensures device { OnOk result (AreTogether kernel.new (N.regs nic.new) (N.log nic.new)) }
     ensures usable { OnOk result (kernel.new.usable ≡ true) }
     ensures acts { OnOk result (kernel.new.acts ≤ kernel.old.acts + 1) }
+    ensures holds { (name : List ℕ) → C.holds cabinet.new name ≡ C.holds cabinet.old name }
+    ensures files_later { (name : List ℕ) → C.faults cabinet.old name ≤ C.faults cabinet.new name }
     ensures later { K.faults sink.old ≤ K.faults sink.new }
-    ensures cause { IfErr result (λ fault.
-        IsCaused fault ⊥ (Rose (K.faults sink.old) (K.faults sink.new))) }
+    ensures cause { IfErr result (λ fault. IsCaused fault
+        (IsSomeAnd (named capture.old) (λ name.
+        Rose (C.faults cabinet.old name) (C.faults cabinet.new name)))
+        (Rose (K.faults sink.old) (K.faults sink.new))) }
 {
     // Called for the laws that are their clauses.
     runs_go_on();
@@ -131,7 +156,9 @@ fn serve_made<N: Nic, K: Sink>(
             make_act(alloc, kernel, act, outcome, nic, text, sink)?;
             Ok(None)
         }
-        Line::NextFrame => serve_frame(alloc, kernel, number, frames, outcome, nic, text, sink),
+        Line::NextFrame => serve_frame(
+            alloc, kernel, number, capture, cabinet, outcome, nic, text, sink,
+        ),
     }
 }
 
@@ -148,11 +175,12 @@ fn end_at(line: u32, fault: LineFault) -> Result<End, Memory>
 }
 
 // The next frame comes from the wire.
-fn serve_frame<N: Nic, K: Sink>(
+fn serve_frame<C: Cabinet, N: Nic, K: Sink>(
     alloc: Global,
     kernel: &mut Kernel,
     number: u32,
-    frames: &mut Frames<'_>,
+    capture: &mut Option<Capture<'_>>,
+    cabinet: &mut C,
     outcome: &mut Outcome,
     nic: &mut N,
     text: &mut Bytes,
@@ -161,21 +189,32 @@ fn serve_frame<N: Nic, K: Sink>(
     requires usable { kernel.old.usable ≡ true }
     requires acts { kernel.old.acts < 2 ^ 31 }
     requires device { AreTogether kernel.old (N.regs nic.old) (N.log nic.old) }
-    ensures served { IfOk result (λ end. (behind : List (List ℕ) → Reading) → Serves
-        (reading_next number frames.old behind) (behind_end end (behind frames.new))
+    ensures served { IfOk result (λ end. (file : List ℕ)
+        → IsHeld (C.holds cabinet.old) file capture.old
+        → (behind : List (List ℕ) → Reading) → Serves
+        (reading_next number (frames_left file capture.old) behind) (behind_end end (behind (frames_left file capture.new)))
         (K.taken sink.old) (K.taken sink.new) text.old text.new kernel.old kernel.new
         (N.regs nic.old) (N.regs nic.new) (N.log nic.old) (N.log nic.new)) }
-    ensures stopped { OnErr result ((behind : List (List ℕ) → Reading) → Stops
-        (reading_next number frames.old behind)
+    ensures stopped { OnErr result ((file : List ℕ)
+        → IsHeld (C.holds cabinet.old) file capture.old
+        → (behind : List (List ℕ) → Reading) → Stops
+        (reading_next number (frames_left file capture.old) behind)
         (K.taken sink.old) (K.taken sink.new) text.old text.new kernel.old
         (N.regs nic.old) (N.log nic.old) (N.log nic.new)) }
+    ensures held { OnOk result ((file : List ℕ) → IsHeld (C.holds cabinet.old) file capture.old
+        → IsHeld (C.holds cabinet.old) file capture.new) }
+    ensures name { named capture.new ≡ named capture.old }
     ensures of_script { IfOk result (λ end. IfSome end IsOfScript) }
     ensures device { OnOk result (AreTogether kernel.new (N.regs nic.new) (N.log nic.new)) }
     ensures usable { OnOk result (kernel.new.usable ≡ true) }
     ensures acts { OnOk result (kernel.new.acts ≤ kernel.old.acts + 1) }
+    ensures holds { (name : List ℕ) → C.holds cabinet.new name ≡ C.holds cabinet.old name }
+    ensures files_later { (name : List ℕ) → C.faults cabinet.old name ≤ C.faults cabinet.new name }
     ensures later { K.faults sink.old ≤ K.faults sink.new }
-    ensures cause { IfErr result (λ fault.
-        IsCaused fault ⊥ (Rose (K.faults sink.old) (K.faults sink.new))) }
+    ensures cause { IfErr result (λ fault. IsCaused fault
+        (IsSomeAnd (named capture.old) (λ name.
+        Rose (C.faults cabinet.old name) (C.faults cabinet.new name)))
+        (Rose (K.faults sink.old) (K.faults sink.new))) }
 {
     // Called for the laws that are their clauses.
     runs_go_on();
@@ -183,9 +222,8 @@ fn serve_frame<N: Nic, K: Sink>(
     frames_are_fronts();
     sent_frames_are_fronts();
     frames_are_sent_in_turn();
-    match frames.next() {
+    match next_frame(alloc, capture, cabinet)? {
         Some(frame) => {
-            let frame = Bytes::from_slice(alloc, frame)?;
             let act = Act::WireIn { frame };
             make_act(alloc, kernel, &act, outcome, nic, text, sink)?;
             Ok(None)

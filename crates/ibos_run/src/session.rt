@@ -1,16 +1,19 @@
 // A session: the acts of a script, and the text that they bring.
 ghost use Rattle.std.specs.Prelude.{◌≡◌, ◌≤◌, ◌<◌, ◌⊎◌, [], ◌++◌, true, List, ℕ};
-ghost use Rattle.std.specs.Prelude.{OnOk, OnErr, IfErr, IfOk, IfSome};
+ghost use Rattle.std.specs.Prelude.{◌∷◌, OnOk, OnErr, IfErr, IfOk, IfSome};
+ghost use Rattle.std.specs.List.{Any};
 ghost use Rattle.ibos_kinds.specs.Outside.{Rose};
 ghost use Rattle.ibos_run.specs.Inputs.{last_line, script_with};
 ghost use Rattle.ibos_run.specs.Readings.{reading_of, script_in};
 ghost use Rattle.ibos_kernel.specs.Standing.{Agrees, Stands};
 ghost use Rattle.ibos_run.specs.Device.{IsReset};
+ghost use Rattle.ibos_run.specs.Captured.{IsHeld, frames_left, named};
 ghost use Rattle.ibos_run.specs.Faults.{IsCaused, ending, status_for};
 ghost use Rattle.ibos_run.specs.Script.{IsOfScript, refusal_of};
 ghost use Rattle.ibos_run.specs.Session.{IsBroken, IsOver, IsStopped, IsTold};
+ghost use Rattle.ibos_run.specs.Words.{with_capture};
 
-use crate::capture::Frames;
+use crate::capture::Capture;
 use crate::fault::{Fault, Status};
 use crate::gather::hand_over;
 use crate::script::{End, serve_line};
@@ -30,7 +33,7 @@ pub fn run_session<C: Cabinet, N: Nic, K: Sink>(
     alloc: Global,
     hosts: Hosts,
     name: &Bytes,
-    frames: Frames<'_>,
+    capture: &mut Option<Capture<'_>>,
     cabinet: &mut C,
     nic: &mut N,
     text: &mut Bytes,
@@ -38,25 +41,31 @@ pub fn run_session<C: Cabinet, N: Nic, K: Sink>(
 ) -> Result<Status, Fault>
     requires reset { IsReset (N.regs nic.old) (N.log nic.old) }
     requires empty { text.old ≡ [] }
-    ensures status { IfOk result (λ status.
-        IfSome (script_with hosts frames.entry (C.holds cabinet.old name.now)) (λ i.
-        status ≡ status_for i)) }
-    ensures told { OnOk result (
-        IfSome (script_with hosts frames.entry (C.holds cabinet.old name.now)) (λ i.
+    ensures status { IfOk result (λ status. (file : List ℕ)
+        → IsHeld (C.holds cabinet.old) file capture.old
+        → IfSome (script_with hosts (frames_left file capture.old)
+        (C.holds cabinet.old name.now)) (λ i. status ≡ status_for i)) }
+    ensures told { OnOk result ((file : List ℕ)
+        → IsHeld (C.holds cabinet.old) file capture.old
+        → IfSome (script_with hosts (frames_left file capture.old)
+        (C.holds cabinet.old name.now)) (λ i.
         IsTold i (K.taken sink.old) (K.taken sink.new) (N.regs nic.new) (N.log nic.new))) }
-    ensures broken { OnErr result (
-        IfSome (script_with hosts frames.entry (C.holds cabinet.old name.now)) (λ i.
+    ensures broken { OnErr result ((file : List ℕ)
+        → IsHeld (C.holds cabinet.old) file capture.old
+        → IfSome (script_with hosts (frames_left file capture.old)
+        (C.holds cabinet.old name.now)) (λ i.
         IsBroken i (K.taken sink.old) (K.taken sink.new) text.new (N.log nic.new))) }
     ensures ends { IfOk result (λ status. (status ≡ Status.Done) ⊎ (status ≡ Status.Refused)) }
     ensures holds { (name : List ℕ) → C.holds cabinet.new name ≡ C.holds cabinet.old name }
     ensures files_later { (name : List ℕ) → C.faults cabinet.old name ≤ C.faults cabinet.new name }
     ensures later { K.faults sink.old ≤ K.faults sink.new }
     ensures cause { IfErr result (λ fault. IsCaused fault
-        (Rose (C.faults cabinet.old name.now) (C.faults cabinet.new name.now))
+        (Any (λ name. Rose (C.faults cabinet.old name) (C.faults cabinet.new name))
+        (with_capture (named capture.old) (name.now ∷ [])))
         (Rose (K.faults sink.old) (K.faults sink.new))) }
 {
     let mut kernel = Kernel::new(alloc, hosts, nic)?;
-    let ended = run_script(alloc, &mut kernel, name, frames, cabinet, nic, text, sink);
+    let ended = run_script(alloc, &mut kernel, name, capture, cabinet, nic, text, sink);
     kernel.close();
     ended
 }
@@ -66,7 +75,7 @@ fn run_script<C: Cabinet, N: Nic, K: Sink>(
     alloc: Global,
     kernel: &mut Kernel,
     name: &Bytes,
-    frames: Frames<'_>,
+    capture: &mut Option<Capture<'_>>,
     cabinet: &mut C,
     nic: &mut N,
     text: &mut Bytes,
@@ -78,24 +87,30 @@ fn run_script<C: Cabinet, N: Nic, K: Sink>(
     requires usable { kernel.old.usable ≡ true }
     requires acts { kernel.old.acts ≡ 0 }
     requires empty { text.old ≡ [] }
-    ensures status { IfOk result (λ status.
-        IfSome (script_with kernel.old.hosts frames.entry (C.holds cabinet.old name.now)) (λ i.
-        status ≡ status_for i)) }
-    ensures told { OnOk result (
-        IfSome (script_with kernel.old.hosts frames.entry (C.holds cabinet.old name.now)) (λ i.
+    ensures status { IfOk result (λ status. (file : List ℕ)
+        → IsHeld (C.holds cabinet.old) file capture.old
+        → IfSome (script_with kernel.old.hosts (frames_left file capture.old)
+        (C.holds cabinet.old name.now)) (λ i. status ≡ status_for i)) }
+    ensures told { OnOk result ((file : List ℕ)
+        → IsHeld (C.holds cabinet.old) file capture.old
+        → IfSome (script_with kernel.old.hosts (frames_left file capture.old)
+        (C.holds cabinet.old name.now)) (λ i.
         IsTold i (K.taken sink.old) (K.taken sink.new) (N.regs nic.new) (N.log nic.new))) }
-    ensures broken { OnErr result (
-        IfSome (script_with kernel.old.hosts frames.entry (C.holds cabinet.old name.now)) (λ i.
+    ensures broken { OnErr result ((file : List ℕ)
+        → IsHeld (C.holds cabinet.old) file capture.old
+        → IfSome (script_with kernel.old.hosts (frames_left file capture.old)
+        (C.holds cabinet.old name.now)) (λ i.
         IsBroken i (K.taken sink.old) (K.taken sink.new) text.new (N.log nic.new))) }
     ensures ends { IfOk result (λ status. (status ≡ Status.Done) ⊎ (status ≡ Status.Refused)) }
     ensures holds { (name : List ℕ) → C.holds cabinet.new name ≡ C.holds cabinet.old name }
     ensures files_later { (name : List ℕ) → C.faults cabinet.old name ≤ C.faults cabinet.new name }
     ensures later { K.faults sink.old ≤ K.faults sink.new }
     ensures cause { IfErr result (λ fault. IsCaused fault
-        (Rose (C.faults cabinet.old name.now) (C.faults cabinet.new name.now))
+        (Any (λ name. Rose (C.faults cabinet.old name) (C.faults cabinet.new name))
+        (with_capture (named capture.old) (name.now ∷ [])))
         (Rose (K.faults sink.old) (K.faults sink.new))) }
 {
-    let end = make_acts(alloc, kernel, name, frames, cabinet, nic, text, sink)?;
+    let end = make_acts(alloc, kernel, name, capture, cabinet, nic, text, sink)?;
     let status = push_last(alloc, kernel.acts(), end, text)?;
     hand_over(text, sink)?;
     Ok(status)
@@ -106,7 +121,7 @@ fn make_acts<C: Cabinet, N: Nic, K: Sink>(
     alloc: Global,
     kernel: &mut Kernel,
     name: &Bytes,
-    frames: Frames<'_>,
+    capture: &mut Option<Capture<'_>>,
     cabinet: &mut C,
     nic: &mut N,
     text: &mut Bytes,
@@ -118,19 +133,24 @@ fn make_acts<C: Cabinet, N: Nic, K: Sink>(
     requires usable { kernel.old.usable ≡ true }
     requires acts { kernel.old.acts ≡ 0 }
     requires empty { text.old ≡ [] }
-    ensures over { IfOk result (λ end. IfSome (C.holds cabinet.old name.now) (λ file.
-        IsOver kernel.old.hosts (reading_of frames.entry (script_in file)) (K.taken sink.old)
+    ensures over { IfOk result (λ end. (captured : List ℕ)
+        → IsHeld (C.holds cabinet.old) captured capture.old
+        → IfSome (C.holds cabinet.old name.now) (λ file. IsOver kernel.old.hosts
+        (reading_of (frames_left captured capture.old) (script_in file)) (K.taken sink.old)
         (K.taken sink.new) text.new (N.regs nic.new) (N.log nic.new) kernel.new.acts
         (refusal_of end))) }
     ensures of_script { IfOk result IsOfScript }
-    ensures stopped { OnErr result (IfSome (C.holds cabinet.old name.now) (λ file.
-        IsStopped kernel.old.hosts (reading_of frames.entry (script_in file)) (K.taken sink.old)
+    ensures stopped { OnErr result ((captured : List ℕ)
+        → IsHeld (C.holds cabinet.old) captured capture.old
+        → IfSome (C.holds cabinet.old name.now) (λ file. IsStopped kernel.old.hosts
+        (reading_of (frames_left captured capture.old) (script_in file)) (K.taken sink.old)
         (K.taken sink.new) text.new (N.log nic.new))) }
     ensures holds { (name : List ℕ) → C.holds cabinet.new name ≡ C.holds cabinet.old name }
     ensures files_later { (name : List ℕ) → C.faults cabinet.old name ≤ C.faults cabinet.new name }
     ensures later { K.faults sink.old ≤ K.faults sink.new }
     ensures cause { IfErr result (λ fault. IsCaused fault
-        (Rose (C.faults cabinet.old name.now) (C.faults cabinet.new name.now))
+        (Any (λ name. Rose (C.faults cabinet.old name) (C.faults cabinet.new name))
+        (with_capture (named capture.old) (name.now ∷ [])))
         (Rose (K.faults sink.old) (K.faults sink.new))) }
 {
     // Called for the laws that are their clauses.
@@ -138,7 +158,6 @@ fn make_acts<C: Cabinet, N: Nic, K: Sink>(
     frames_are_fronts();
     sent_frames_are_fronts();
     let mut source = Source::new(alloc)?;
-    let mut frames = frames;
     let mut made = Line::NextFrame;
     let mut outcome = Outcome::new(alloc);
     let mut lines = 0;
@@ -154,7 +173,8 @@ fn make_acts<C: Cabinet, N: Nic, K: Sink>(
             lines,
             line,
             &mut made,
-            &mut frames,
+            capture,
+            cabinet,
             &mut outcome,
             nic,
             text,

@@ -1,4 +1,4 @@
-use Rattle.std.proofs.Common.{◌≡◌, ◌+◌, ◌<◌, List, [], ◌∷◌, arith, ap, length, subst, sym}
+use Rattle.std.proofs.Common.{◌≡◌, List, [], ◌∷◌, arith, ap, length, subst, sym}
 use Rattle.ibos_kinds.specs.declared.act.Act.{Act}
 use Rattle.ibos_make.specs.Drill.{left}
 use Rattle.ibos_run.specs.Summaries.{IsTally}

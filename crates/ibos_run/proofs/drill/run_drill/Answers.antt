@@ -1,4 +1,4 @@
-use Rattle.std.proofs.Common.{◌≡◌, ◌∙◌}
+use Rattle.std.proofs.Common.{◌∙◌}
 use Rattle.ibos_run.proofs.Drills.{drill_broken, drill_through, drill_told, drill_unhanded, drill_unsaid, drill_untouched}
 use Rattle.ibos_run.proofs.Taken.{on_err}
 use Rattle.ibos_run.proofs.drill.run_drill.Goals as goal

@@ -1,5 +1,4 @@
 use Rattle.std.proofs.Common.{ℕ, List, ◌∷◌, []}
-use Rattle.std.specs.List.{Any}
 use Rattle.std.specs.Option.{option_copied}
 use Rattle.ibos_kinds.specs.Outside.{Rose}
 use Rattle.ibos_run.specs.Words.{with_capture}

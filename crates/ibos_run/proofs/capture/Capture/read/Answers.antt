@@ -1,19 +1,35 @@
-use Rattle.std.proofs.Common.{◌≡◌, List, ℕ, Result, Ok, Err, subst}
-use Rattle.ibos_capture.specs.declared.fault.CapFault.{CapFault}
-use Rattle.ibos_capture.specs.Captures.{capture_in, frames_at}
-use Rattle.ibos_capture.specs.Reads.{Reads}
-use Rattle.ibos_run.proofs.Captures.{fault_read}
-use Rattle.ibos_run.proofs.Files.{capture_file}
+use Rattle.std.proofs.Common.{◌≤◌, ◌<◌, ◌∙◌, ℕ, ap, arith, length, length-take}
+use Rattle.std.proofs.lemmas.Bool.Decides.{nat_tests}
+use Rattle.ibos_run.specs.Captured.{Piece}
+use Rattle.ibos_run.proofs.Captures.{each_held, entries_if, is_too_long, refused_as}
+use Rattle.ibos_run.proofs.Shown.{front_is, piece_none}
 use Rattle.ibos_run.proofs.capture.Capture.read.Goals as goal
 
-pub returns-in-Ok-clause-frames : goal.returns-in-Ok-clause-frames
-returns-in-Ok-clause-frames g c =
-    let P : Result (List (List ℕ)) (ℕ × CapFault) → Type 0 = λ r. r ≡ Ok (frames_at c.in_ok-bytes.bytes c.in-Ok.index) in
-    let Q : List ℕ → Type 0 = λ t. capture_in t ≡ Ok (frames_at t c.in-Ok.index) in
-    capture_file _ _ P c.in_ok-bytes.ensures.bytes (subst Q c.as_slice.ensures c.in-Ok.ensures.frames)
+pub returns-then-branch-clause-read : goal.returns-then-branch-clause-read
+returns-then-branch-clause-read g c = is_too_long _ (λ file held.
+    let has = c.in_ok-has_byte.ensures.has file held (piece_none file _ (ap (λ (p : Piece). p.bytes) c.in_ok-window.ensures)) in
+    let more : 67108864 < length file = grind (arith, nat_tests, has, c.if-branch.true) in
+    more)
 
-pub returns-in-Err-clause-frames : goal.returns-in-Err-clause-frames
-returns-in-Err-clause-frames g c =
-    let P : Result (List (List ℕ)) (ℕ × CapFault) → Type 0 = Reads {T = List (List ℕ)} (Err c.in-Err.fault) in
-    let Q : List ℕ → Type 0 = λ t. P (capture_in t) in
-    capture_file _ _ P c.in_ok-bytes.ensures.bytes (subst Q c.as_slice.ensures (fault_read _ _ c.in-Err.ensures.reads))
+pub begin-requires : goal.begin-requires
+begin-requires g c = omega (arith, ap length c.front.ensures, length-take {A = ℕ})
+
+pub returns-in-Ok-clause-read : goal.returns-in-Ok-clause-read
+returns-in-Ok-clause-read g c = entries_if _ _ _ _ _ c.read_entries.ensures.read (λ file held.
+    let none = piece_none file _ (ap (λ (p : Piece). p.bytes) c.in_ok-window.ensures) in
+    let has = c.in_ok-has_byte.ensures.has file held none in
+    let short : length file ≤ 67108864 = grind (arith, nat_tests, has, c.if-branch.false) in
+    let told = c.has_byte.ensures.holds c.args.name.now ∙ held in
+    let shows = c.in_ok-look.ensures.shows file told (c.in_ok-has_byte.ensures.of file held none) in (
+      c.look.ensures.holds c.args.name.now ∙ told,
+      (c.in-Ok.ensures.begun file short (c.front.ensures ∙ front_is file 0 24 _ c.in_ok-look.ensures.at shows), shows.of),
+    ))
+
+pub returns-clause-read : goal.returns-clause-read
+returns-clause-read g c = each_held _ _ (λ file held.
+    let none = piece_none file _ (ap (λ (p : Piece). p.bytes) c.in_ok-window.ensures) in
+    let has = c.in_ok-has_byte.ensures.has file held none in
+    let short : length file ≤ 67108864 = grind (arith, nat_tests, has, c.if-branch.false) in
+    let told = c.has_byte.ensures.holds c.args.name.now ∙ held in
+    let shows = c.in_ok-look.ensures.shows file told (c.in_ok-has_byte.ensures.of file held none) in
+    refused_as file c.in-Err.fault short (c.in-Err.ensures.refused file short (c.front.ensures ∙ front_is file 0 24 _ c.in_ok-look.ensures.at shows)))
