@@ -1,6 +1,5 @@
-use Rattle.std.proofs.Common.{List, ℕ, ◌∙◌, ap, subst, rules, take}
+use Rattle.std.proofs.Common.{List, ℕ, ◌∙◌, ap, subst, rules}
 use Rattle.std.specs.List.{flat_map}
-use Rattle.hex.specs.Hex.{encode_lower}
 use Rattle.ibos_outcome.specs.Printed.{Appends}
 use Rattle.ibos_outcome.proofs.HexTexts.{wide-digits}
 use Rattle.ibos_outcome.proofs.printed.push_wide.Goals as goal
