@@ -2,8 +2,8 @@
 //!
 //! A file is gone over once, from its header on, and no frame is copied: what is kept is a place
 //! and a length for each entry, 8 bytes together. `Index::read` gives them, or the first fault and
-//! the number of its entry; an `IndexReader` does so where the file isn't in memory, from its headers
-//! alone.
+//! the number of its entry; an `IndexReader` does so where the file isn't in memory, from its
+//! headers alone.
 #![tactic(auto)]
 
 mod fault;

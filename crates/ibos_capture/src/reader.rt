@@ -83,12 +83,12 @@ impl IndexReader {
         self.place
     }
 
-    /// How many captured bytes the next entry says that it has, or the fault of its header. `header`
-    /// is the 16 bytes from its place on, or all that are left where there are fewer.
+    /// How many captured bytes the next entry says that it has, or the fault of its header.
+    /// `header` is the 16 bytes from its place on, or all that are left where there are fewer.
     pub fn next_len(&self, header: &[u8]) -> Result<u32, CaptureFault>
         requires { 0 < length header.now }
-        ensures len { IfOk result (λ len. (file : List ℕ) → IsFront file self.now.place 16 header.now
-            → HasNext file self.now len) }
+        ensures len { IfOk result (λ len. (file : List ℕ)
+            → IsFront file self.now.place 16 header.now → HasNext file self.now len) }
         ensures fits { IfOk result (λ len. len ≤ 262144) }
         ensures refused { IfErr result (λ fault. (file : List ℕ) → IsReadTo file self.now
             → IsFront file self.now.place 16 header.now

@@ -9,8 +9,10 @@ use std::alloc::Global;
 use std::process::Abort;
 use std::test::Fail;
 
-const HOSTS: &[u8] =
-    b"self 192.0.2.10 02:00:00:00:00:01\ngateway 02:00:00:00:00:fe\nhost a.example 198.51.100.1\nhost b.example 198.51.100.2\n";
+const HOSTS: &[u8] = b"self 192.0.2.10 02:00:00:00:00:01\n\
+    gateway 02:00:00:00:00:fe\n\
+    host a.example 198.51.100.1\n\
+    host b.example 198.51.100.2\n";
 
 const SCRIPT: &[u8] = b"user close 0\nuser close 1\n";
 
@@ -138,22 +140,52 @@ fn text_goes_to_the_sink_in_large_pieces(rt: HostRuntime) -> Result<(), Fail> {
 }
 
 // Each page binds a flow, and the frame that comes is one of the first page's flow.
-const FRAME_SCRIPT: &[u8] =
-    b"user open 0 http://a.example/\nuser open 1 http://b.example/\nnet 0.0 flow tcp\nnet 1.0 flow udp\ndev write 0x2800 0x100000\ndev write 0x2808 0x400\ndev rx 0 0 0\ndev write 0x0100 0x04008002\ndev write 0x2818 0x1\nwire in 0200000000010200000000fe08004500002b0001400040064e8dc6336401c000020a005080000000000100000001501820005ed50000616263\ndev bell rx\n";
+const FRAME_SCRIPT: &[u8] = b"user open 0 http://a.example/\n\
+    user open 1 http://b.example/\n\
+    net 0.0 flow tcp\n\
+    net 1.0 flow udp\n\
+    dev write 0x2800 0x100000\n\
+    dev write 0x2808 0x400\n\
+    dev rx 0 0 0\n\
+    dev write 0x0100 0x04008002\n\
+    dev write 0x2818 0x1\n\
+    wire in 0200000000010200000000fe08004500002b0001400040064e8dc6336401c000020a005080000000000\
+    100000001501820005ed50000616263\n\
+    dev bell rx\n";
 
-const FRAME_TEXT: &[u8] =
-    b"1 ok\n1 0.0 opened http://a.example/\n2 ok\n2 1.0 opened http://b.example/\n3 ok\n3 0.0 flow 0 32768 198.51.100.1 80\n4 ok\n4 1.0 flow 0 33280 198.51.100.2 80\n5 ok\n6 ok\n7 ok\n8 ok\n9 ok\n10 ok\n10 wire heard\n11 ok\n11 dev lent 0 1\n";
+const FRAME_TEXT: &[u8] = b"1 ok\n\
+    1 0.0 opened http://a.example/\n\
+    2 ok\n\
+    2 1.0 opened http://b.example/\n\
+    3 ok\n\
+    3 0.0 flow 0 32768 198.51.100.1 80\n\
+    4 ok\n\
+    4 1.0 flow 0 33280 198.51.100.2 80\n\
+    5 ok\n\
+    6 ok\n\
+    7 ok\n\
+    8 ok\n\
+    9 ok\n\
+    10 ok\n\
+    10 wire heard\n\
+    11 ok\n\
+    11 dev lent 0 1\n";
 
 // What came, and that the first page is told it.
 const CAME: &[u8] =
-    b"11 0.0 frame 0 0200000000010200000000fe08004500002b0001400040064e8dc6336401c000020a005080000000000100000001501820005ed50000616263\nend 11\n";
+    b"11 0.0 frame 0 0200000000010200000000fe08004500002b0001400040064e8dc6336401c000020a00508000\
+      0000000100000001501820005ed50000616263\n\
+      end 11\n";
 
 // What the other device writes in its place, and that the page whose flow it names is told it.
 const NOISE: &[u8] =
-    b"\x02\x00\x00\x00\x00\x01\x02\x00\x00\x00\x00\xfe\x08\x00E\x00\x00\x1e\x00\x02\x00\x00@\x11\x8e\x8d\xc63d\x02\xc0\x00\x02\x0a\x00P\x82\x00\x00\x0a\x00\x00hi";
+    b"\x02\x00\x00\x00\x00\x01\x02\x00\x00\x00\x00\xfe\x08\x00E\x00\x00\x1e\x00\x02\x00\x00@\x11\
+      \x8e\x8d\xc63d\x02\xc0\x00\x02\x0a\x00P\x82\x00\x00\x0a\x00\x00hi";
 
 const NOISE_CAME: &[u8] =
-    b"11 1.0 frame 0 0200000000010200000000fe08004500001e0002000040118e8dc6336402c000020a00508200000a00006869\nend 11\n";
+    b"11 1.0 frame 0 0200000000010200000000fe08004500001e0002000040118e8dc6336402c000020a00508200\
+      000a00006869\n\
+      end 11\n";
 
 // The text of a run over a device.
 fn text_over<N: Nic>(rt: &(impl Abort + AllocGlobal), nic: &mut N) -> Result<MemSink, Memory> {

@@ -25,7 +25,8 @@ impl Model for Rows {
 
     ghost Value = { Seen };
 
-    ghost view = { λ r. record { chrome = take 240 r.pixels.items; body = drop 240 r.pixels.items } };
+    ghost view = { λ r.
+        record { chrome = take 240 r.pixels.items; body = drop 240 r.pixels.items } };
 
     ghost invariant = { λ r. length r.pixels.items ≡ 2000 };
 }

@@ -184,8 +184,8 @@ impl Kernel {
             → views self.old.hosts (entry act.now out.new (N.log nic.new) ∷ J)
             ≡ views self.old.hosts J) }
 
-        // The log's entries stay. Where the act's frame is heard, one more has that frame, and where
-        // the device sends, one more has the frame that is sent next.
+        // The log's entries stay. Where the act's frame is heard, one more has that frame, and
+        // where the device sends, one more has the frame that is sent next.
         ensures log { OnOk result ((J : Journal) → Stands J self.old
             → Agrees self.old.hosts J (N.regs nic.old) (N.log nic.old)
             → N.log nic.new ≡ log_after out.new (frame_of act.now) (got_for out.new

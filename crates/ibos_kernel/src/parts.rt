@@ -97,7 +97,8 @@ impl Parts {
         Ok(())
     }
 
-    // Makes an act that is admitted. Requests end with their instance, and one that starts has none.
+    // Makes an act that is admitted. Requests end with their instance, and one that starts has
+    // none.
     fn make_and_follow(&mut self, alloc: Global, act: &Act, out: &mut Outcome) -> Result<(), Memory>
         requires pages { is_net act.now ≡ false }
         requires seen { tables.is_quiet act.now ≡ false }

@@ -203,8 +203,8 @@ impl Outcome {
         }
     }
 
-    /// Appends an item, or drops it where there is no memory for it. Part of its callers, so that an
-    /// item is written where it stays, and not moved there.
+    /// Appends an item, or drops it where there is no memory for it. Part of its callers, so that
+    /// an item is written where it stays, and not moved there.
     #[inline(always)]
     pub fn push(&mut self, item: Item) -> Result<(), Memory>
         ensures head { self.new.head ≡ self.old.head }

@@ -46,7 +46,8 @@ pub fn drill_hosts(alloc: Global) -> Result<Hosts, Memory>
 pub struct Drill {
     // How many of the acts before the rounds came.
     opening: u8,
-    // How many rounds are not over, what the first of these is about, and how many of its acts came.
+    // How many rounds are not over, what the first of these is about, and how many of its acts
+    // came.
     rounds: u32,
     round: Round,
     place: u8,

@@ -1,6 +1,6 @@
 // The rounds of a drill.
-ghost use Rattle.std.specs.Prelude.{◌≡◌, ◌+◌, ◌^◌, ◌<◌, ◌∷◌, [], Some, IfOk, IfSome, IsSome, slice_get};
-ghost use Rattle.std.specs.Prelude.{OnErr, OnOk, slice_index};
+ghost use Rattle.std.specs.Prelude.{◌≡◌, ◌+◌, ◌^◌, ◌<◌, ◌∷◌, [], Some, IfOk, IfSome, IsSome};
+ghost use Rattle.std.specs.Prelude.{OnErr, OnOk, slice_get, slice_index};
 ghost use Rattle.hex.specs.Hex.{encode_lower};
 ghost use Rattle.ibos_kinds.specs.Limits.{Fits};
 ghost use Rattle.ibos_make.specs.Drill.{first_counts};
@@ -211,7 +211,8 @@ pub fn receive_act(
     drill.go_on();
     match place {
         1 => *act = Act::RxBell,
-        // The buffer is posted where the ring goes on. Each round trip of a buffer is one more turn.
+        // The buffer is posted where the ring goes on. Each round trip of a buffer is one more
+        // turn.
         2 => {
             *act = Act::RxPost {
                 slot: (received % 64 + 63) % 64,
@@ -327,8 +328,8 @@ pub fn cookie_act(
     Ok(())
 }
 
-/// An object is stored and asked for. An answer in the name of another origin is refused, and one in
-/// the right name is taken.
+/// An object is stored and asked for. An answer in the name of another origin is refused, and one
+/// in the right name is taken.
 pub fn object_act(
     alloc: Global,
     tab: u8,
@@ -342,7 +343,8 @@ pub fn object_act(
     requires tab { tab < 8 }
     requires place { place < 4 }
     requires rounds { 0 < drill.old.rounds }
-    ensures act { OnOk result (slice_get (object_acts tab byte request version) place ≡ Some act.new) }
+    ensures act { OnOk result
+        (slice_get (object_acts tab byte request version) place ≡ Some act.new) }
     ensures fits { OnOk result (Fits act.new) }
     ensures ok { OnOk result (drill.new ≡ next_in drill.old) }
     ensures err { OnErr result (drill.new ≡ drill.old) }

@@ -1,5 +1,6 @@
 -- A net half that stands for what a journal says of flows, frames, rings and sends.
-use Rattle.std.specs.Prelude.{ℕ, ◌≡◌, ◌≢◌, ◌+◌, Bool, true, false, List, [], ◌∷◌, ◌++◌, length, None}
+use Rattle.std.specs.Prelude.{ℕ, ◌≡◌, ◌≢◌, ◌+◌, Bool, true, false, List, [], ◌∷◌, ◌++◌, length}
+use Rattle.std.specs.Prelude.{None}
 use Rattle.ibos_kinds.specs.declared.act.Act.{Act}
 use Rattle.ibos_kinds.specs.declared.act.Act.TheVariants.{Bind, Unbind, Done, RegRead, RegWrite}
 use Rattle.ibos_kinds.specs.declared.act.Act.TheVariants.{RxPost, RxBell, WireIn}
@@ -85,9 +86,9 @@ pub record RingsStand (rings : Rings) (frames : List (List ℕ)) (m : Mediated)
   pub pending : frames ≡ received_frames mem m.receive
   pub sent : rings.sent ≡ completed Transmit mem m.transmit
 
--- Whoever lives hears by the flows that it bound, its frames lie in its inbox, and it has buffers to
--- send from. No one else has flows, an inbox or buffers. What is to be sent are the frames of the
--- sends that were posted.
+-- Whoever lives hears by the flows that it bound, its frames lie in its inbox, and it has buffers
+-- to send from. No one else has flows, an inbox or buffers. What is to be sent are the frames of
+-- the sends that were posted.
 -- life: whether an instance lives; remote: where its origin is
 pub record NetStands (life : Instance → Life) (remote : Instance → Endpoint) (n : Network)
     (t : NetState) : Type 0 where

@@ -1,6 +1,6 @@
 -- Buffers and sends that stand for what a journal says of them.
-use Rattle.std.specs.Prelude.{ℕ, ◌≡◌, ◌≢◌, ◌+◌, ◌<◌, ◌==◌, ◌&&◌, List, [], ◌∷◌, Bool, true, not, length}
-use Rattle.std.specs.Prelude.{map, drop, is_some, slice_index_or, Option, Some, None, if◌then◌else◌}
+use Rattle.std.specs.Prelude.{ℕ, ◌≡◌, ◌≢◌, ◌+◌, ◌<◌, ◌==◌, ◌&&◌, List, [], ◌∷◌, Bool, true, not}
+use Rattle.std.specs.Prelude.{length, map, drop, is_some, slice_index_or, Option, Some, None, if◌then◌else◌}
 use Rattle.std.specs.List.{list_any}
 use Rattle.ibos_kinds.specs.declared.names.Instance.{Instance}
 use Rattle.ibos_kinds.specs.Parties.{same}
@@ -80,10 +80,10 @@ ArePosted life sends buffers mem (post ∷ posts) [] = ⊥
 ArePosted life sends buffers mem (post ∷ posts) (h ∷ held) =
     IsPostedFor life sends buffers mem post h × ArePosted life sends buffers mem posts held
 
--- Of an instance that lives each buffer is at home, with the journal's bytes, or away with one send,
--- which waits or is in the ring.
--- homes, waiting, posted: the buffers at home, the sends that wait, and the posts in the ring, whose
--- buffers are held
+-- Of an instance that lives each buffer is at home, with the journal's bytes, or away with one
+-- send, which waits or is in the ring.
+-- homes, waiting, posted: the buffers at home, the sends that wait, and the posts in the ring,
+-- whose buffers are held
 pub record BuffersStand (life : Instance → Life) (sends : List Send)
     (buffers : Instance → ℕ → List ℕ) (away : Instance → ℕ → Bool) (homes : Table)
     (waiting : List (Option Waiting)) (posted : List Post) (held : List Held)

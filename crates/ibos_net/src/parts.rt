@@ -6,8 +6,8 @@ use ibos_recv::Inboxes;
 use ibos_send::Sends;
 use std::marker::Model;
 
-/// The mediator, the memory and the names of its buffers, the flows, the inboxes and the sends. They
-/// can't be dropped.
+/// The mediator, the memory and the names of its buffers, the flows, the inboxes and the sends.
+/// They can't be dropped.
 pub(crate) struct Parts {
     pub(crate) med: Mediator,
     pub(crate) mem: Mem,

@@ -1,6 +1,7 @@
 // Frames on their way out: processes write them and submit them, the driver posts them, and they go
 // out on the wire.
-ghost use Rattle.std.specs.Prelude.{◌≡◌, ◌≢◌, ◌<◌, ◌≤◌, ◌^◌, ◌+◌, [], List, true, false, OnErr, OnOk};
+ghost use Rattle.std.specs.Prelude.{◌≡◌, ◌≢◌, ◌<◌, ◌≤◌, ◌^◌, ◌+◌, [], List, true, false, OnErr};
+ghost use Rattle.std.specs.Prelude.{OnOk};
 ghost use Rattle.ibos_kinds.specs.declared.names.Local.{Local as Addresses};
 ghost use Rattle.ibos_kinds.specs.declared.act.Act.TheVariants.{Fill, Submit, TxBell, TxPost};
 ghost use Rattle.ibos_kinds.specs.declared.act.Act.TheVariants.{WireOut};

@@ -50,8 +50,8 @@ impl HostFault {
 }
 
 /// Why no host table was read: its first fault and where that is, or out of memory. All lines
-/// count, from
-/// 1. A fault of the whole table stands outside of them: `TooLong` at 0, `NoSelf` one past the last line.
+/// count, and the first is line 1. A fault of the whole table stands outside of them: `TooLong` at
+/// 0, `NoSelf` one past the last line.
 #[derive(Clone, Copy, Debug, PartialEq, Eq, Error)]
 pub enum HostsFault {
     #[error("line {line}: {fault}")]

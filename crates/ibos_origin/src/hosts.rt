@@ -172,7 +172,8 @@ impl PartialTable {
     fn set_own(&mut self, addr: u32, mac: u64) -> Result<(), HostsFault>
         ensures ok { OnOk result (with_host_line self.old (Some (Own addr mac)) ≡ Ok self.new) }
         ensures err { IfErr result (λ fault.
-            Refuses fault (at_line self.old.lines (with_host_line self.old (Some (Own addr mac))))) }
+            Refuses fault
+            (at_line self.old.lines (with_host_line self.old (Some (Own addr mac))))) }
     {
         if self.own.is_some() {
             return Err(self.fault(HostFault::Twice));

@@ -1,5 +1,6 @@
 // The text of an outcome.
-ghost use Rattle.std.specs.Prelude.{◌≡◌, ◌<◌, ◌≤◌, ◌++◌, [], ◌∷◌, length, take, IfOk, OnOk, OnErr, codes};
+ghost use Rattle.std.specs.Prelude.{◌≡◌, ◌<◌, ◌≤◌, ◌++◌, [], ◌∷◌, length, take, IfOk, OnOk};
+ghost use Rattle.std.specs.Prelude.{OnErr, codes};
 ghost use Rattle.std.specs.Prelude.{decimal};
 ghost use Rattle.hex.specs.Hex.{encode_lower};
 ghost use Rattle.ibos_outcome.specs.Printed as spec;
@@ -561,8 +562,8 @@ fn push_hex(text: &mut Bytes, bytes: &[u8]) -> Result<(), Memory>
     push_digits(text, bytes)
 }
 
-// Appends two digits for each byte: those of 64 bytes at a time, of 16, and then of the few that are
-// left.
+// Appends two digits for each byte: those of 64 bytes at a time, of 16, and then of the few that
+// are left.
 fn push_digits(text: &mut Bytes, bytes: &[u8]) -> Result<(), Memory>
     ensures { Appends result text.old text.new (encode_lower bytes.now) }
 {

@@ -8,8 +8,10 @@ use std::alloc::Global;
 use std::process::Abort;
 use std::test::Fail;
 
-const HOSTS: &[u8] =
-    b"self 192.0.2.10 02:00:00:00:00:01\ngateway 02:00:00:00:00:fe\nhost a.example 198.51.100.1\nhost b.example 198.51.100.2\n";
+const HOSTS: &[u8] = b"self 192.0.2.10 02:00:00:00:00:01\n\
+    gateway 02:00:00:00:00:fe\n\
+    host a.example 198.51.100.1\n\
+    host b.example 198.51.100.2\n";
 
 fn page(alloc: Global, url: &[u8]) -> Result<Page, Fail> {
     let hosts = Hosts::read(alloc, HOSTS)?;

@@ -1,4 +1,5 @@
-//! The top call: from the words of a command line, and the files that they name, to the printed text.
+//! The top call: from the words of a command line, and the files that they name, to the printed
+//! text.
 #![tactic(auto)]
 
 mod capture;

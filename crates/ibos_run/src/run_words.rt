@@ -41,11 +41,11 @@ const MAX_HOSTS_LEN: usize = 4_194_304;
 ///
 /// The host table is read first, then the capture if one is named, and then the script, each where
 /// what comes before has no fault. Each line of the script that is an act is one step of a kernel,
-/// and the text of its outcome goes to the sink, numbered from 1; a line `wire next` is the act that
-/// the next frame of the capture comes in. The last line is `end K` with the number of acts, or
-/// `refused FILE K N NAME` with the first fault: FILE is `hosts`, `capture` or `script`, K the line
-/// or the capture's entry, N and NAME the fault's number and name. A drill makes its acts in the
-/// same way, and writes one line that counts them. Any other words are answered with the usage
+/// and the text of its outcome goes to the sink, numbered from 1; a line `wire next` is the act
+/// that the next frame of the capture comes in. The last line is `end K` with the number of acts,
+/// or `refused FILE K N NAME` with the first fault: FILE is `hosts`, `capture` or `script`, K the
+/// line or the capture's entry, N and NAME the fault's number and name. A drill makes its acts in
+/// the same way, and writes one line that counts them. Any other words are answered with the usage
 /// line, for which no memory is taken.
 ///
 /// Of the capture all headers are read first, and each frame when a line wants it; the script is

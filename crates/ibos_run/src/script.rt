@@ -192,7 +192,8 @@ fn serve_frame<C: Cabinet, N: Nic, K: Sink>(
     ensures served { IfOk result (λ end. (file : List ℕ)
         → IsHeld (C.holds cabinet.old) file capture.old
         → (behind : List (List ℕ) → Reading) → Serves
-        (reading_next number (frames_left file capture.old) behind) (behind_end end (behind (frames_left file capture.new)))
+        (reading_next number (frames_left file capture.old) behind)
+        (behind_end end (behind (frames_left file capture.new)))
         (K.taken sink.old) (K.taken sink.new) text.old text.new kernel.old kernel.new
         (N.regs nic.old) (N.regs nic.new) (N.log nic.old) (N.log nic.new)) }
     ensures stopped { OnErr result ((file : List ℕ)

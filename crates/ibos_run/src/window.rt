@@ -49,8 +49,8 @@ impl Window {
         })
     }
 
-    /// Reads where that is needed, so that from the place on so many bytes are in the window, or all
-    /// that the file has.
+    /// Reads where that is needed, so that from the place on so many bytes are in the window, or
+    /// all that the file has.
     pub fn look<C: Cabinet>(
         &mut self,
         cabinet: &mut C,
@@ -112,8 +112,8 @@ impl Window {
         Ok(self.has(place, 1))
     }
 
-    /// Reads so many bytes from a place on into a vector of their own, or all that the file has. They
-    /// may be more than the window holds.
+    /// Reads so many bytes from a place on into a vector of their own, or all that the file has.
+    /// They may be more than the window holds.
     pub fn read<C: Cabinet>(
         &mut self,
         alloc: Global,

@@ -206,7 +206,8 @@ pub fn read_cookie_get(
 
 /// Nothing behind `net T.N flow P`.
 pub fn read_bind(proto: Proto, who: &[u8], line: &[u8], made: &mut Line) -> Result<(), LineFault>
-    ensures line { Makes result made.new (form_of nothing (λ who. Bind who proto) who.now line.now) }
+    ensures line { Makes result made.new
+        (form_of nothing (λ who. Bind who proto) who.now line.now) }
     ensures fits { OnOk result (LineFits made.new) }
 {
     end_line(line)?;
@@ -283,7 +284,8 @@ pub fn read_fill(alloc: Global, who: &[u8], line: &[u8], made: &mut Line) -> Res
 
 /// `B LEN` behind `net T.N submit`.
 pub fn read_submit(who: &[u8], line: &[u8], made: &mut Line) -> Result<(), LineFault>
-    ensures line { Makes result made.new (form_of (buffer (number nothing)) Submit who.now line.now) }
+    ensures line { Makes result made.new
+        (form_of (buffer (number nothing)) Submit who.now line.now) }
     ensures fits { OnOk result (LineFits made.new) }
 {
     let (buffer, rest) = take_word(line)?;
@@ -432,7 +434,8 @@ pub fn read_register_read(line: &[u8], made: &mut Line) -> Result<(), LineFault>
 
 /// `REG VALUE` behind `dev write`.
 pub fn read_register_write(line: &[u8], made: &mut Line) -> Result<(), LineFault>
-    ensures line { Makes result made.new (form (hex_number (hex_number nothing)) RegWrite line.now) }
+    ensures line { Makes result made.new
+        (form (hex_number (hex_number nothing)) RegWrite line.now) }
     ensures fits { OnOk result (LineFits made.new) }
 {
     let (offset, rest) = take_word(line)?;

@@ -56,10 +56,10 @@ pub enum Line {
 /// | `wire next` | no act, but `NextFrame` |
 ///
 /// T (below 64), N (below 32), I (below 16), B (below 4), NAME (below 256), and ROW, COL, HEIGHT,
-/// WIDTH, PLACE, LEN, R, V, SLOT, TURN and SEND (below 2^32) are decimal, in at most ten digits. REG
-/// and VALUE are `0x` and one to eight hexadecimal digits. K is `enter`, `back` or a printable byte
-/// in hexadecimal, HEX any number of bytes in hexadecimal, `-` for none. KEY and ORIGIN are one
-/// word; URL and TEXT take what is left of the line.
+/// WIDTH, PLACE, LEN, R, V, SLOT, TURN and SEND (below 2^32) are decimal, in at most ten digits.
+/// REG and VALUE are `0x` and one to eight hexadecimal digits. K is `enter`, `back` or a printable
+/// byte in hexadecimal, HEX any number of bytes in hexadecimal, `-` for none. KEY and ORIGIN are
+/// one word; URL and TEXT take what is left of the line.
 pub fn read_line(alloc: Global, line: &[u8]) -> Result<Option<Line>, LineFault>
     ensures line { Gives result (line_in line.now) }
     ensures fits { IfOk result (λ line. IfSome line LineFits) }
@@ -72,8 +72,8 @@ pub fn read_line(alloc: Global, line: &[u8]) -> Result<Option<Line>, LineFault>
     }
 }
 
-/// The same, but what the line gives takes the place of what the caller has in `made`, and the answer
-/// is whether it gives something: an act is large, and a call that answers it copies it.
+/// The same, but what the line gives takes the place of what the caller has in `made`, and the
+/// answer is whether it gives something: an act is large, and a call that answers it copies it.
 #[tactic(auto, unfolding(crate::specs::Lines::line_in))]
 pub fn read_line_into(alloc: Global, line: &[u8], made: &mut Line) -> Result<bool, LineFault>
     ensures line { GivesInto result made.new (line_in line.now) }

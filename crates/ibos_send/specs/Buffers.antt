@@ -1,5 +1,5 @@
--- The transmit buffers of the instances. Each has four, and of these some are at home: not away with
--- a send.
+-- The transmit buffers of the instances. Each has four, and of these some are at home: not away
+-- with a send.
 use Rattle.std.specs.Prelude.{◌≡◌, ℕ, ◌+◌, ◌*◌, ◌<◌, ◌==◌, ◌&&◌, List, [], ◌∷◌, ◌++◌, Bool, false}
 use Rattle.std.specs.Prelude.{length, map, nat_lt, slice_index_or, Option, Some, None}
 use Rattle.std.specs.Prelude.{if◌then◌else◌}
@@ -89,7 +89,8 @@ pub record IsFresh (names : Names) (area : ℕ) : Type 0 where
 
 -- nor is one of them lent
 abbrev pub AreFreshIn : Memory → Names → ℕ → Type 0
-AreFreshIn mem names area = (index : ℕ) → index < 4 → IsKept mem (place_of names (name_in area index))
+AreFreshIn mem names area = (index : ℕ) → index < 4
+    → IsKept mem (place_of names (name_in area index))
 
 -- buffers at hand in some memory
 abbrev pub AreHeld : Names → List Held → Type 0

@@ -1,7 +1,7 @@
 //! The transmit buffers of all instances.
 ghost use Rattle.std.specs.Prelude.{◌≡◌, ◌≢◌, ◌+◌, ◌<◌, ◌⊎◌, ◌++◌, [], ◌∷◌, ℕ, List, length};
-ghost use Rattle.std.specs.Prelude.{slice_set, is_some, if◌then◌else◌, true, None, Some, IfOk, OnOk};
-ghost use Rattle.std.specs.Prelude.{OnErr};
+ghost use Rattle.std.specs.Prelude.{slice_set, is_some, if◌then◌else◌, true, None, Some, IfOk};
+ghost use Rattle.std.specs.Prelude.{OnErr, OnOk};
 ghost use Rattle.std.specs.Option.{option_copied};
 ghost use Rattle.ibos_kinds.specs.declared.names.Instance.{Instance};
 ghost use Rattle.ibos_kinds.specs.Limits.{IsNamed};
